@@ -1,0 +1,7 @@
+use Rattle.std.proofs.Common.{◌∙◌, ap}
+use Rattle.move_model.specs.Optional.{entry_of}
+use Rattle.move_model.proofs.WalkRowLemmas.{map-replicate}
+use Rattle.move_model.proofs.walk_row.WalkRow.new.Goals as goal
+
+pub returns : goal.returns
+returns c = rw (c.in_ok-seconds.ensures.items_if_clones_equal (λ y is. is)) (map-replicate entry_of _ _)

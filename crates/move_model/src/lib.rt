@@ -1,0 +1,26 @@
+//! The plain types of networks, journeys, queries and refusals, and the definitions that say what
+//! they mean: walks and distances, rides and journeys, the Pareto set, shortcuts.
+#![tactic(auto)]
+
+mod journey;
+mod list;
+mod network;
+mod query;
+mod refusal;
+mod walk_row;
+
+pub use journey::{
+    Journey, Key, Pair, Profile, Ride, RideList, Seconds, Shortcut, Shortcuts, Span, Spans, Walk,
+    Walks,
+};
+pub use list::List;
+pub use network::{
+    Arc, Arcs, Call, Calls, Name, Network, NodeNo, Stop, StopNo, StopPairs, Stops, Trip, TripNo,
+    Trips,
+};
+pub use query::{Place, Queries, Query};
+pub use refusal::{Cause, FileKind, Refusal, Stopped};
+pub use walk_row::WalkRow;
+
+/// Want of memory.
+pub use std::alloc::AllocError as NoMemory;
