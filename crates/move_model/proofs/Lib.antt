@@ -1,1 +1,2 @@
 mod WalkRowLemmas
+mod DigitLemmas

@@ -7,6 +7,7 @@ mod list;
 mod network;
 mod query;
 mod refusal;
+mod time;
 mod walk_row;
 
 pub use journey::{
@@ -20,6 +21,7 @@ pub use network::{
 };
 pub use query::{Place, Queries, Query};
 pub use refusal::{Cause, FileKind, Refusal, Stopped};
+pub use time::{TimeText, read_time, write_time};
 pub use walk_row::WalkRow;
 
 /// Want of memory.
