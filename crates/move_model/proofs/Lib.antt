@@ -1,2 +1,3 @@
 mod WalkRowLemmas
 mod DigitLemmas
+mod CheckLemmas

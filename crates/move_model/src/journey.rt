@@ -33,6 +33,16 @@ pub struct Pair {
     pub trips: u8,
 }
 
+/// A pair with a journey that attains it.
+#[derive(Debug, Drop)]
+pub struct Finding {
+    pub pair: Pair,
+    pub journey: Journey,
+}
+
+/// The pairs of an answer, by rising number of trips.
+pub type Findings = List<Finding>;
+
 /// The place of a piece, two rides with their walks, in the order of the pieces to a stop.
 #[derive(Clone, Copy, Debug, PartialEq, Eq)]
 pub struct Key {

@@ -2,6 +2,7 @@
 //! they mean: walks and distances, rides and journeys, the Pareto set, shortcuts.
 #![tactic(auto)]
 
+mod check;
 mod journey;
 mod list;
 mod network;
@@ -10,9 +11,10 @@ mod refusal;
 mod time;
 mod walk_row;
 
+pub use check::NetFault;
 pub use journey::{
-    Journey, Key, Pair, Profile, Ride, RideList, Seconds, Shortcut, Shortcuts, Span, Spans, Walk,
-    Walks,
+    Finding, Findings, Journey, Key, Pair, Profile, Ride, RideList, Seconds, Shortcut, Shortcuts,
+    Span, Spans, Walk, Walks,
 };
 pub use list::List;
 pub use network::{

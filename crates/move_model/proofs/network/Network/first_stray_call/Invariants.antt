@@ -1,0 +1,7 @@
+use Rattle.std.proofs.Common.{take}
+use Rattle.std.specs.Prelude.{All}
+use Rattle.move_model.specs.Check.{IsAtStop}
+use Rattle.move_model.proofs.network.Network.first_stray_call.Given as goal
+
+abbrev pub invariant-loop-i : goal.invariant-loop-i
+invariant-loop-i l = All (IsAtStop l.self) (take l.i l.calls)
