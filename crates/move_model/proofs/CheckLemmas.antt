@@ -1,5 +1,5 @@
 -- Facts on lists, place by place, and the order of trips.
-use Rattle.std.proofs.Common.{◌≡◌, ◌+◌, ◌-◌, ◌<◌, ◌≤◌, ℕ, zero, suc, arith, List, [], ◌∷◌, length, take, drop, get_or, false, sym}
+use Rattle.std.proofs.Common.{◌≡◌, ◌+◌, ◌-◌, ◌<◌, ◌≤◌, ℕ, zero, suc, arith, List, [], length, take, drop, get_or, false, sym}
 use Rattle.std.specs.Prelude.{All}
 use Rattle.std.specs.List.{AllAdjacentBelow}
 use Rattle.std.proofs.lemmas.List.Sorted.{all_adjacent_more}
@@ -8,7 +8,7 @@ use Rattle.std.proofs.lemmas.List.Elements.{All-more, All-same}
 use Rattle.move_model.specs.declared.network.Call.{Call}
 use Rattle.move_model.specs.declared.network.Network.{Network}
 use Rattle.move_model.specs.Network.{IsAtOrBefore}
-use Rattle.move_model.specs.Check.{HasNodes, Joins, IsShort, Stands, IsLong, IsAtStop, Stays, GoesOn, AreTimed, Precedes, KeepsRules}
+use Rattle.move_model.specs.Check.{HasNodes, Joins, IsShort, Stands, IsLong, IsAtStop, GoesOn, AreTimed, Precedes, KeepsRules}
 
 -- one more item has the property
 pub All-one_more : {X : Type 0} (P : X → Type 0) (xs : List X) (i : ℕ) (x : X) → i < length xs → x ≡ get_or xs i x

@@ -5,7 +5,7 @@
 --     IsWalk g a vs b m          vs is a walk from a to b, of m seconds
 --     IsDistance g a b m         the least walk from a to b has m seconds
 --     HasDistance g a b r        r is the distance from a to b, or None where there is no walk
-use Rattle.std.specs.Prelude.{◌≡◌, ℕ, ◌+◌, ◌≤◌, List, [], ◌∷◌, All, Contains, Option, Some, None}
+use Rattle.std.specs.Prelude.{ℕ, ◌+◌, ◌≤◌, List, [], ◌∷◌, All, Contains, Option, Some, None}
 use Rattle.move_model.specs.declared.network.NodeNo.{NodeNo}
 use Rattle.move_model.specs.declared.network.Arc.{Arc}
 

@@ -1,7 +1,7 @@
 use Rattle.std.proofs.Common.{◌-◌, ◌<◌, length, arith}
 use Rattle.std.proofs.lemmas.List.{get_or_default}
 use Rattle.std.proofs.lemmas.List.Elements.{All-more}
-use Rattle.move_model.specs.Check.{Stays, GoesOn}
+use Rattle.move_model.specs.Check.{Stays}
 use Rattle.move_model.proofs.CheckLemmas.{no-call, All-whole, go_on-one_more}
 use Rattle.move_model.proofs.check.first_untimed_call.Goals as goal
 use Rattle.move_model.proofs.check.first_untimed_call.Goals.{else-i-gt0-via-then-i-gt0+else-calls-i, else-i-gt0-via-else-i-gt0}

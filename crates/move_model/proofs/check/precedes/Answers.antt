@@ -1,4 +1,3 @@
-use Rattle.std.proofs.Common.{rules}
 use Rattle.move_model.specs.Network.{IsAtOrBefore}
 use Rattle.move_model.proofs.CheckLemmas.{not-before_end}
 use Rattle.move_model.proofs.check.precedes.Goals as goal

@@ -1,4 +1,4 @@
-use Rattle.std.proofs.Common.{◌≡◌, ◌∙◌, ◌+◌, ◌*◌, ◌-◌, ◌≤◌, true, false, sym, get_or, rules, arith}
+use Rattle.std.proofs.Common.{◌≡◌, ◌∙◌, ◌-◌, ◌≤◌, true, false, sym, get_or, rules, arith}
 use Rattle.std.specs.Char.{is_ascii_digit}
 use Rattle.move_model.proofs.DigitLemmas.{digits_after-digit, digits_after-other, digits_after-end, digit-below}
 use Rattle.move_model.proofs.time.digits.Goals as goal

@@ -1,4 +1,4 @@
-use Rattle.std.proofs.Common.{arith, refl, rules}
+use Rattle.std.proofs.Common.{arith, refl}
 use Rattle.move_model.specs.Check.{IsFirstFault, HasNodes}
 use Rattle.move_model.proofs.CheckLemmas.{keeps-rules}
 use Rattle.move_model.proofs.network.Network.check.Goals as goal

@@ -1,4 +1,3 @@
-use Rattle.std.proofs.Common.{◌∙◌, ap}
 use Rattle.move_model.specs.Optional.{entry_of}
 use Rattle.move_model.proofs.WalkRowLemmas.{map-replicate}
 use Rattle.move_model.proofs.walk_row.WalkRow.new.Goals as goal

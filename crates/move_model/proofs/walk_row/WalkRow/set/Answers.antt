@@ -1,4 +1,3 @@
-use Rattle.std.proofs.Common.{◌∙◌, ap}
 use Rattle.std.proofs.lemmas.List.{map-set}
 use Rattle.move_model.specs.Optional.{entry_of}
 use Rattle.move_model.proofs.walk_row.WalkRow.set.Goals as goal
