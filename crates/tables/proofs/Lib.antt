@@ -1,0 +1,12 @@
+pub mod Marks
+pub mod Whole
+pub mod UnreadLemmas
+pub mod Digits
+pub mod IdLemmas
+pub mod Positions
+pub mod Trims
+pub mod Fields
+pub mod NameLemmas
+pub mod TableLemmas
+pub mod RowLemmas
+pub mod ValueLemmas

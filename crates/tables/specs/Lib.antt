@@ -1,0 +1,4 @@
+pub mod Table
+pub mod Unread
+pub mod Values
+pub mod Names
