@@ -1,0 +1,5 @@
+pub mod Numbers
+pub mod RowValues
+pub mod Files
+pub mod Sound
+pub mod Outcome

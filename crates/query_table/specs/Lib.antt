@@ -1,0 +1,5 @@
+pub mod Places
+pub mod Numbered
+pub mod Rules
+pub mod Row
+pub mod Queries
