@@ -1,0 +1,17 @@
+pub mod Lexicographic
+pub mod Optionals
+pub mod LeastArcs
+pub mod Walks
+pub mod Distances
+pub mod DistanceBound
+pub mod Calls
+pub mod Legs
+pub mod Decisions
+pub mod Exchange
+pub mod ShortcutsSuffice
+pub mod AllPairs
+pub mod ListedJourneys
+pub mod Earliest
+pub mod ParetoByRides
+pub mod Unique
+pub mod JourneyLegs

@@ -1,0 +1,3 @@
+pub mod Leg
+pub mod ParetoList
+pub mod TransferList
