@@ -1,0 +1,10 @@
+mod Swap
+mod Order
+mod KeysIn
+mod Exchange
+mod Removal
+mod Arrival
+mod Room
+mod Steps
+mod Least
+mod Stored
