@@ -1,0 +1,11 @@
+use Rattle.std.proofs.Common.{◌≡◌, ◌<◌, ◌^◌, drop}
+use Rattle.std.specs.Str.{all_ascii_digits}
+use Rattle.std.specs.Str.Parse.{digits_value, digits_value_after}
+use Rattle.street_graph.proofs.number.digits.Given as goal
+
+abbrev pub invariant-loop-digit : goal.invariant-loop-digit
+invariant-loop-digit l = record {
+  so_far : digits_value_after 10 l.value (drop l.digit-index l.text) ≡ digits_value 10 l.text;
+  digits : all_ascii_digits (drop l.digit-index l.text) ≡ all_ascii_digits l.text;
+  fits : l.value < 2 ^ 64;
+}

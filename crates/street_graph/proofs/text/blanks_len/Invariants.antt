@@ -1,0 +1,7 @@
+use Rattle.std.proofs.Common.{◌≡◌, ◌<◌, ℕ, false, get_or}
+use Rattle.std.specs.Prelude.{not}
+use Rattle.street_graph.specs.Text.{is_blank}
+use Rattle.street_graph.proofs.text.blanks_len.Given as goal
+
+abbrev pub invariant-loop-i : goal.invariant-loop-i
+invariant-loop-i l = (k : ℕ) → k < l.i → not (is_blank (get_or l.line k 0)) ≡ false

@@ -1,0 +1,15 @@
+//! Street graphs: the two text forms of the DIMACS shortest path challenge, `.gr` for vertices and arcs, `.co` for
+//! coordinates, and the graph with its arcs by vertex.
+#![tactic(auto)]
+
+mod gr;
+mod graph;
+mod number;
+mod rows;
+#[cfg(test)]
+mod tests;
+mod text;
+
+pub use gr::read_gr;
+pub use graph::Graph;
+pub use rows::Half;
