@@ -1,0 +1,19 @@
+use Rattle.std.proofs.Common.{◌∙◌, ap}
+use Rattle.move_model.specs.Time.{time_text}
+use Rattle.journey_print.specs.Records.{pair_record}
+use Rattle.journey_print.proofs.rows.add_pair.Goals as goal
+
+pub returns : goal.returns
+unfolding pair_record
+returns c =
+    rw (
+      c.as_bytes.ensures.value ∙ c.format.ensures.text,
+      c.as_bytes-2.ensures.value ∙ c.format-2.ensures.text,
+      c.as_bytes-3.ensures.value ∙ c.format-3.ensures.text,
+      c.as_slice.ensures,
+      c.as_bytes-4.ensures.value ∙ c.format-4.ensures.text,
+      c.as_slice-2.ensures,
+      c.as_bytes-5.ensures.value ∙ c.format-5.ensures.text,
+      c.bytes.ensures ∙ c.write_time.ensures ∙ ap time_text c.from.ensures,
+      c.bytes-2.ensures ∙ c.write_time-2.ensures,
+    ) at c.add_record.ensures
