@@ -1,0 +1,143 @@
+// Answers to queries.
+ghost use Rattle.std.specs.Prelude.{◌≡◌, ◌<◌, ◌≤◌, ◌-◌, ◌^◌, ◌↔◌, length, IfOk, OnOk, OnErr, IsErrOf};
+ghost use Rattle.move_files.specs.Outside.{Rose};
+ghost use Rattle.plan_core.specs.Answer.{Grows, SendsRows, SendsPartOfRows};
+
+use crate::Compiled;
+use journey_print::{PointAnswer, PrintStop, write_header, write_pairs};
+use move_files::Sink;
+use move_model::{List, Network, NoMemory, Place, Queries, Query};
+use plain_search::point_findings;
+use std::alloc::Global;
+use std::sync::ledger::Ledger;
+use steps::Steps;
+
+/// Why an answer was not sent whole.
+#[derive(Clone, Copy, Debug, PartialEq, Eq)]
+pub enum AnswerStop {
+    WriteFault,
+    NoMemory,
+}
+
+fn copy_of(alloc: Global, place: &Place) -> Result<Place, NoMemory>
+    ensures { IfOk result (λ copy. copy ≡ place.now) }
+{
+    let word = List::from_slice(alloc, place.word.as_slice())?;
+    Ok(Place {
+        node: place.node,
+        word,
+    })
+}
+
+// The answer to a point query.
+fn answer_point(
+    alloc: Global,
+    network: &Network,
+    from: &Place,
+    to: &Place,
+    depart: u32,
+    limit: u8,
+) -> Result<PointAnswer, NoMemory> {
+    let found = point_findings(alloc, network, from.node, to.node, depart, limit)?;
+    Ok(PointAnswer {
+        from: copy_of(alloc, from)?,
+        to: copy_of(alloc, to)?,
+        depart,
+        found,
+    })
+}
+
+// What a stop of a row is for the answer.
+fn stop_of(stop: PrintStop) -> AnswerStop
+    ensures { (result ≡ AnswerStop.WriteFault) ↔ (stop ≡ PrintStop.WriteFault) }
+{
+    match stop {
+        PrintStop::WriteFault => AnswerStop::WriteFault,
+        PrintStop::NoMemory => AnswerStop::NoMemory,
+    }
+}
+
+// Sends the rows of an answer.
+fn send_rows<S: Sink>(
+    alloc: Global,
+    number: u32,
+    answer: &PointAnswer,
+    out: &mut S,
+) -> Result<(), AnswerStop>
+    ensures grows { S.tells → Grows (S.sent out.old) (S.sent out.new) }
+    ensures fault { IsErrOf result AnswerStop.WriteFault → Rose (S.faults out.old) (S.faults out.new) }
+    ensures counts { (S.faults out.old ≤ S.faults out.new) × (S.wants out.old ≤ S.wants out.new) }
+{
+    match write_pairs(alloc, number, answer, out) {
+        Ok(()) => Ok(()),
+        Err(stop) => Err(stop_of(stop)),
+    }
+}
+
+// Sends the rows of one query. No query is of another kind until ranges are answered.
+fn send_answer<S: Sink>(
+    alloc: Global,
+    network: &Network,
+    number: u32,
+    query: &Query,
+    out: &mut S,
+) -> Result<(), AnswerStop>
+    ensures grows { S.tells → Grows (S.sent out.old) (S.sent out.new) }
+    ensures fault { IsErrOf result AnswerStop.WriteFault → Rose (S.faults out.old) (S.faults out.new) }
+    ensures counts { (S.faults out.old ≤ S.faults out.new) × (S.wants out.old ≤ S.wants out.new) }
+{
+    match query {
+        Query::At {
+            from,
+            to,
+            depart,
+            limit,
+        } => match answer_point(alloc, network, from, to, *depart, *limit) {
+            Ok(answer) => send_rows(alloc, number, &answer, out),
+            Err(_) => Err(AnswerStop::NoMemory),
+        },
+        Query::Range { .. } => Ok(()),
+    }
+}
+
+// Sends the rows of queries, which are numbered from 1.
+fn send_answers<S: Sink>(
+    alloc: Global,
+    network: &Network,
+    queries: &[Query],
+    out: &mut S,
+) -> Result<(), AnswerStop>
+    requires { length queries.now < 2 ^ 32 - 1 }
+    ensures grows { S.tells → Grows (S.sent out.old) (S.sent out.new) }
+    ensures fault { IsErrOf result AnswerStop.WriteFault → Rose (S.faults out.old) (S.faults out.new) }
+    ensures counts { (S.faults out.old ≤ S.faults out.new) × (S.wants out.old ≤ S.wants out.new) }
+{
+    let mut number = 0;
+    for query in queries {
+        number += 1;
+        send_answer(alloc, network, number, query, out)?;
+    }
+    Ok(())
+}
+
+/// Sends the header row, and the rows of all queries in their order. A counter is not ticked until what it
+/// counts is built.
+pub fn answer<S: Sink, L: Ledger, M: Ledger>(
+    alloc: Global,
+    compiled: &Compiled,
+    queries: &Queries,
+    out: &mut S,
+    _searches: &mut Steps<L>,
+    _opens: &mut Steps<M>,
+) -> Result<(), AnswerStop>
+    requires { length queries.now < 2 ^ 32 - 1 }
+    ensures ok { S.tells → OnOk result (SendsRows (S.sent out.old) (S.sent out.new)) }
+    ensures err { S.tells → OnErr result (SendsPartOfRows (S.sent out.old) (S.sent out.new)) }
+    ensures fault { IsErrOf result AnswerStop.WriteFault → Rose (S.faults out.old) (S.faults out.new) }
+    ensures counts { (S.faults out.old ≤ S.faults out.new) × (S.wants out.old ≤ S.wants out.new) }
+{
+    if let Err(stop) = write_header(alloc, out) {
+        return Err(stop_of(stop));
+    }
+    send_answers(alloc, &compiled.network, queries.as_slice(), out)
+}
