@@ -1,0 +1,4 @@
+pub mod IdLemmas
+pub mod StopLemmas
+pub mod RisingLemmas
+pub mod FinishLemmas

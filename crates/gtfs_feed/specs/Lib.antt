@@ -1,0 +1,4 @@
+pub mod Feed
+pub mod Ids
+pub mod Frequencies
+pub mod Kept

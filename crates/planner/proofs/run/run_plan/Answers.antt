@@ -1,0 +1,17 @@
+use Rattle.planner.proofs.CauseLemmas.{HasCause-usage, HasCause-write_fault, HasCause-no_file, HasCause-read_fault, SendsOnly-nothing}
+use Rattle.planner.proofs.run.run_plan.Goals as goal
+
+pub returns-in-Err-clause-not_usage : goal.returns-in-Err-clause-not_usage
+returns-in-Err-clause-not_usage g c = HasCause-usage _ _ _ _ _ _ c.in-Err.ensures.cause
+
+pub returns-in-Err-clause-no_file : goal.returns-in-Err-clause-no_file
+returns-in-Err-clause-no_file g c = HasCause-no_file _ _ _ _ _ _ c.in-Err.ensures.cause
+
+pub returns-in-Err-clause-read_fault : goal.returns-in-Err-clause-read_fault
+returns-in-Err-clause-read_fault g c = HasCause-read_fault _ _ _ _ _ _ c.in-Err.ensures.cause
+
+pub returns-in-Err-clause-write_fault : goal.returns-in-Err-clause-write_fault
+returns-in-Err-clause-write_fault g c = λ is. absurd (HasCause-write_fault _ _ _ _ _ _ c.in-Err.ensures.cause is)
+
+pub returns-in-Err-clause-sent : goal.returns-in-Err-clause-sent
+returns-in-Err-clause-sent g c = λ tells. SendsOnly-nothing _ _ _ _ _ _ _ c.in-Err.ensures.cause

@@ -1,0 +1,120 @@
+// The feed's folder, and its trips of the day.
+ghost use Rattle.std.specs.Prelude.{◌≡◌, ℕ, List, IfOk, IfErr};
+ghost use Rattle.move_files.specs.Outside.{NeverFalls};
+ghost use Rattle.gtfs_feed.specs.Feed.{IsFeed};
+ghost use Rattle.feed_values.specs.Date.{IsDay};
+ghost use Rattle.planner.specs.Words.{Plan, told};
+ghost use Rattle.planner.specs.Status.{HasCause};
+
+use crate::inputs::{read_file, read_optional, status_of};
+use crate::status::Status;
+use crate::words::PlanWords;
+use gtfs_feed::{Feed, FeedBytes, read_feed};
+use move_files::Files;
+use move_model::{FileKind, Trips};
+use service_day::{active, active_before, expand};
+use std::alloc::Global;
+
+// The files of a feed that name its stops and days.
+#[derive(Drop)]
+struct DayFiles {
+    stops: Vec<u8>,
+    calendar: Option<Vec<u8>>,
+    dates: Option<Vec<u8>>,
+}
+
+// The files of a feed that tell its trips.
+#[derive(Drop)]
+struct TripFiles {
+    trips: Vec<u8>,
+    stop_times: Vec<u8>,
+    frequencies: Option<Vec<u8>>,
+}
+
+fn read_day_files<F: Files>(
+    alloc: Global,
+    plan: &PlanWords,
+    files: &mut F,
+) -> Result<DayFiles, Status>
+    ensures cause { IfErr result (HasCause (told plan.now) (F.misses files.old) (F.misses files.new) (F.read_faults files.old) (F.read_faults files.new)) }
+    ensures contents { F.holds files.new ≡ F.holds files.old }
+    ensures counts { NeverFalls (F.read_faults files.old) (F.read_faults files.new) × NeverFalls (F.misses files.old) (F.misses files.new) }
+{
+    let stops = read_file(alloc, plan, files, FileKind::Stops)?;
+    let calendar = read_optional(alloc, plan, files, FileKind::Calendar)?;
+    let dates = read_optional(alloc, plan, files, FileKind::CalendarDates)?;
+    Ok(DayFiles {
+        stops,
+        calendar,
+        dates,
+    })
+}
+
+fn read_trip_files<F: Files>(
+    alloc: Global,
+    plan: &PlanWords,
+    files: &mut F,
+) -> Result<TripFiles, Status>
+    ensures cause { IfErr result (HasCause (told plan.now) (F.misses files.old) (F.misses files.new) (F.read_faults files.old) (F.read_faults files.new)) }
+    ensures contents { F.holds files.new ≡ F.holds files.old }
+    ensures counts { NeverFalls (F.read_faults files.old) (F.read_faults files.new) × NeverFalls (F.misses files.old) (F.misses files.new) }
+{
+    let trips = read_file(alloc, plan, files, FileKind::Trips)?;
+    let stop_times = read_file(alloc, plan, files, FileKind::StopTimes)?;
+    let frequencies = read_optional(alloc, plan, files, FileKind::Frequencies)?;
+    Ok(TripFiles {
+        trips,
+        stop_times,
+        frequencies,
+    })
+}
+
+// The feed of its files.
+fn feed_of(alloc: Global, days: &DayFiles, trips: &TripFiles) -> Result<Feed, Status>
+    ensures feed { IfOk result IsFeed }
+    ensures cause { (plan : Plan) (misses misses' faults faults' : List ℕ → ℕ) → IfErr result (HasCause plan misses misses' faults faults') }
+{
+    let bytes = FeedBytes {
+        stops: &days.stops,
+        calendar: days.calendar.as_deref(),
+        dates: days.dates.as_deref(),
+        trips: &trips.trips,
+        stop_times: &trips.stop_times,
+        frequencies: trips.frequencies.as_deref(),
+    };
+    match read_feed(alloc, &bytes) {
+        Ok(feed) => Ok(feed),
+        Err(stopped) => Err(status_of(stopped)),
+    }
+}
+
+/// Reads the feed's folder.
+pub fn read_folder<F: Files>(alloc: Global, plan: &PlanWords, files: &mut F) -> Result<Feed, Status>
+    ensures feed { IfOk result IsFeed }
+    ensures cause { IfErr result (HasCause (told plan.now) (F.misses files.old) (F.misses files.new) (F.read_faults files.old) (F.read_faults files.new)) }
+    ensures contents { F.holds files.new ≡ F.holds files.old }
+    ensures counts { NeverFalls (F.read_faults files.old) (F.read_faults files.new) × NeverFalls (F.misses files.old) (F.misses files.new) }
+{
+    let days = read_day_files(alloc, plan, files)?;
+    let trips = read_trip_files(alloc, plan, files)?;
+    feed_of(alloc, &days, &trips)
+}
+
+/// The trips of a date and the night trips of the day before.
+#[tactic(auto, unfolding(crate::specs::Status::HasCause))]
+pub fn day_trips(alloc: Global, feed: &Feed, date: u32) -> Result<Trips, Status>
+    requires feed { IsFeed feed.now }
+    requires date { IsDay date }
+    ensures cause { (plan : Plan) (misses misses' faults faults' : List ℕ → ℕ) → IfErr result (HasCause plan misses misses' faults faults') }
+{
+    let Ok(today) = active(alloc, feed, date) else {
+        return Err(Status::NoMemory);
+    };
+    let Ok(before) = active_before(alloc, feed, date) else {
+        return Err(Status::NoMemory);
+    };
+    match expand(alloc, feed, &today, &before) {
+        Ok(trips) => Ok(trips),
+        Err(stopped) => Err(status_of(stopped)),
+    }
+}

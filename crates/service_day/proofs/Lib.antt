@@ -1,0 +1,11 @@
+mod DayLemmas
+mod ListLemmas
+mod OrderLemmas
+mod NightLemmas
+mod StartLemmas
+mod RowLemmas
+mod GatherLemmas
+mod BoundLemmas
+mod NumberLemmas
+mod ValidLemmas
+mod KeptLemmas

@@ -1,0 +1,28 @@
+-- Departures: trips of a day whose calls still stand in the feed.
+--     trip_of departure     the trip that it stands for
+--     taken night trips     the trips themselves, or the night trips that they give
+--     IsEarliest night trip second     a copy of the trip gives a trip exactly where it leaves at the second or later
+use Rattle.std.specs.Prelude.{◌≡◌, ℕ, ◌+◌, ◌-◌, ◌<◌, ◌≤◌, Bool, true, false, List, [], ◌∷◌, length, map}
+use Rattle.move_model.specs.declared.network.Call.{Call}
+use Rattle.move_model.specs.declared.network.Trip.{Trip}
+use Rattle.gtfs_feed.specs.declared.feed.FeedTrip.{FeedTrip}
+use Rattle.service_day.specs.DayTrips.{copy_at, night_trips}
+use Rattle.service_day.specs.declared.departure.Departure.{Departure}
+
+-- the first departure is moved to the start, and the seconds before the cut are left out
+abbrev pub second_of : Departure → ℕ → ℕ
+second_of departure second = departure.start + (second - departure.first) - departure.cut
+
+abbrev pub call_of : Departure → Call → Call
+call_of departure call = record call { arr = second_of departure call.arr; dep = second_of departure call.dep }
+
+abbrev pub trip_of : Departure → Trip
+trip_of departure = record { name = departure.name.now; calls = map (call_of departure) departure.calls.now }
+
+abbrev pub taken : Bool → List Trip → List Trip
+taken false trips = trips
+taken true trips = night_trips trips
+
+pub record IsEarliest (night : Bool) (trip : FeedTrip) (earliest : ℕ) : Type 0 where
+  pub kept : (second : ℕ) → earliest ≤ second → length (taken night (copy_at trip second ∷ [])) ≡ 1
+  pub dropped : (second : ℕ) → second < earliest → taken night (copy_at trip second ∷ []) ≡ []

@@ -1,0 +1,5 @@
+pub mod FaultLemmas
+pub mod TimelyLemmas
+pub mod PassedLemmas
+pub mod HoldLemmas
+pub mod FillLemmas

@@ -1,0 +1,10 @@
+//! The calls of one trip: the rules that they keep together, and the times of the calls that have none.
+#![tactic(auto)]
+
+mod fault;
+mod fill;
+mod kept;
+
+pub use fault::{Fault, first_fault};
+pub use fill::fill_times;
+pub use kept::{KeptCall, Times};
