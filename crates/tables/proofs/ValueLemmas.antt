@@ -86,7 +86,7 @@ timed true text e =
     let point = both (from_end text 3 == 58) (is_sixtieth (from_end text 2) (from_end text 1)) minutes.1 in
     let short : length text ≤ 9 = le-of (length text) 9 nine.0 in
     let h : unwrap_or (hours_in text) 0 ≤ 999 =
-        or_zero (hours_in text) 999 (λ m. three_digits (take (length text - 6) text) m (omega (arith, length-take (length text - 6) text))) in
+    or_zero (hours_in text) 999 (λ m. three_digits (take (length text - 6) text) m (omega (arith, length-take (length text - 6) text))) in
     rw e (omega (arith, h, sixtieth (from_end text 5) (from_end text 4) minutes.0, sixtieth (from_end text 2) (from_end text 1) point.1))
 
 -- a time is a second of the service day
