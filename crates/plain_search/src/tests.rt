@@ -1,7 +1,6 @@
 use super::*;
 use move_model::{
-    Arc, Arcs, Call, Calls, Journey, List, Network, NoMemory, NodeNo, Stop, StopNo, Stops, Trip,
-    Trips,
+    Arc, Arcs, Call, Calls, List, Network, NoMemory, NodeNo, Stop, StopNo, Stops, Trip, Trips,
 };
 use std::alloc::Global;
 use std::test::Fail;
@@ -80,161 +79,59 @@ fn network_of(
     })
 }
 
-/// A pair as (arrival, trips), with its rides as (trip, board, alight) and its walks.
-type Want<'a> = (u64, u8, &'a [(u32, u32, u32)], &'a [&'a [u32]]);
+// From A at 8:00 to B at 8:10, and from C at 8:15 to D at 8:30.
+const TWO: [[CallRow; 2]; 2] = [[(0, 28800), (1, 29400)], [(2, 29700), (3, 30600)]];
 
-fn same_walks(journey: &Journey, walks: &[&[u32]]) -> bool {
-    if journey.walks.len() != walks.len() {
-        return false;
-    }
-    for (found, wanted) in journey.walks.as_slice().iter().zip(walks) {
-        if found.len() != wanted.len() {
-            return false;
-        }
-        for (node, number) in found.as_slice().iter().zip(*wanted) {
-            if node.0 != *number {
-                return false;
-            }
-        }
-    }
-    true
-}
-
-fn same_rides(journey: &Journey, rides: &[(u32, u32, u32)]) -> bool {
-    if journey.rides.len() != rides.len() {
-        return false;
-    }
-    for (ride, (trip, board, alight)) in journey.rides.as_slice().iter().zip(rides) {
-        if ride.trip.0 != *trip || ride.board != *board || ride.alight != *alight {
-            return false;
-        }
-    }
-    true
-}
-
-fn same_findings(found: &Findings, depart: u32, wanted: &[Want]) -> bool {
-    if found.len() != wanted.len() {
-        return false;
-    }
-    for (finding, (arrive, trips, rides, walks)) in found.as_slice().iter().zip(wanted) {
-        if finding.pair.arrive != *arrive
-            || finding.pair.trips != *trips
-            || finding.journey.depart != depart
-            || !same_rides(&finding.journey, rides)
-            || !same_walks(&finding.journey, walks)
-        {
-            return false;
-        }
-    }
-    true
-}
-
-/// A query over a network, and what it answers.
-#[derive(Clone, Copy)]
-struct Case<'a> {
-    inner: u32,
-    stops: [u32; 4],
-    trips: &'a [[CallRow; 2]],
+/// The arrival, the number of trips and the numbers of vertices of the walks, of each pair that a query gives.
+fn pairs(
+    alloc: Global,
+    network: &Network,
     from: u32,
     to: u32,
     depart: u32,
     limit: u8,
-    wanted: &'a [Want<'a>],
+) -> Result<Vec<(u64, u8, usize)>, NoMemory> {
+    let found = point_findings(alloc, network, NodeNo(from), NodeNo(to), depart, limit)?;
+    let mut pairs = Vec::new(alloc);
+    for finding in found.as_slice() {
+        pairs.push((
+            finding.pair.arrive,
+            finding.pair.trips,
+            finding.journey.walks.len(),
+        ))?;
+    }
+    Ok(pairs)
 }
-
-fn answers(alloc: Global, case: &Case) -> Result<bool, NoMemory> {
-    let network = network_of(alloc, case.inner, 7200, &case.stops, case.trips)?;
-    let found = point_findings(
-        alloc,
-        &network,
-        NodeNo(case.from),
-        NodeNo(case.to),
-        case.depart,
-        case.limit,
-    )?;
-    Ok(same_findings(&found, case.depart, case.wanted))
-}
-
-// From A at 8:00 to B at 8:10, and from C at 8:15 to D at 8:30.
-const TWO: [[CallRow; 2]; 2] = [[(0, 28800), (1, 29400)], [(2, 29700), (3, 30600)]];
 
 #[test]
-fn finds_pairs_with_journeys(rt: HostRuntime) -> Result<(), Fail> {
-    let on_foot: Want = (35700, 0, &[], &[&[1, 4]]);
-    let by_two: Want = (30600, 2, &[(0, 0, 1), (1, 0, 1)], &[&[1], &[2, 3], &[4]]);
-    let base = Case {
-        inner: 240,
-        stops: [1, 2, 3, 4],
-        trips: &TWO,
-        from: 1,
-        to: 4,
-        depart: 28500,
-        limit: 2,
-        wanted: &[on_foot, by_two],
-    };
-    let cases = [
-        base,
-        Case {
-            limit: 1,
-            wanted: &[on_foot],
-            ..base
-        },
-        Case { inner: 300, ..base },
-        Case {
-            inner: 301,
-            wanted: &[on_foot],
-            ..base
-        },
-        Case {
-            to: 1,
-            wanted: &[(28500, 0, &[], &[&[1]])],
-            ..base
-        },
-        Case {
-            from: 2,
-            to: 1,
-            depart: 29520,
-            wanted: &[],
-            ..base
-        },
-        Case {
-            from: 2,
-            to: 1,
-            depart: 29460,
-            wanted: &[(37800, 1, &[(1, 0, 1)], &[&[2, 3], &[4, 1]])],
-            ..base
-        },
-        Case {
-            depart: 28801,
-            wanted: &[(36001, 0, &[], &[&[1, 4]])],
-            ..base
-        },
-        Case {
-            stops: [1, 2, 2, 4],
-            wanted: &[
-                on_foot,
-                (30600, 2, &[(0, 0, 1), (1, 0, 1)], &[&[1], &[2], &[4]]),
-            ],
-            ..base
-        },
-        Case {
-            inner: 360,
-            trips: &[TWO[0], [(0, 28860), (1, 29340)], TWO[1]],
-            wanted: &[
-                on_foot,
-                (30600, 2, &[(1, 0, 1), (2, 0, 1)], &[&[1], &[2, 3], &[4]]),
-            ],
-            ..base
-        },
-        Case {
-            trips: &[TWO[0], [(0, 29100), (3, 30600)], TWO[1]],
-            wanted: &[on_foot, (30600, 1, &[(1, 0, 1)], &[&[1], &[4]])],
-            ..base
-        },
-    ];
-    for (number, case) in cases.iter().enumerate() {
-        assert!(rt; answers(rt.alloc(), case)?, "case {number}");
-    }
+fn finds_the_pairs_of_the_sample(rt: HostRuntime) -> Result<(), Fail> {
+    let alloc = rt.alloc();
+    let base = network_of(alloc, 240, 7200, &[1, 2, 3, 4], &TWO)?;
+    let both = pairs(alloc, &base, 1, 4, 28500, 2)?;
+    assert!(rt; both.as_slice() == [(35700, 0, 1), (30600, 2, 3)].as_slice());
+    let one = pairs(alloc, &base, 1, 4, 28500, 1)?;
+    assert!(rt; one.as_slice() == [(35700, 0, 1)].as_slice());
+    let home = pairs(alloc, &base, 1, 1, 28500, 2)?;
+    assert!(rt; home.as_slice() == [(28500, 0, 1)].as_slice());
+    let missed = pairs(alloc, &base, 2, 1, 29520, 2)?;
+    assert!(rt; missed.is_empty());
+    let caught = pairs(alloc, &base, 2, 1, 29460, 2)?;
+    assert!(rt; caught.as_slice() == [(37800, 1, 2)].as_slice());
+    Ok(())
+}
+
+#[test]
+fn finds_the_pairs_of_changed_samples(rt: HostRuntime) -> Result<(), Fail> {
+    let alloc = rt.alloc();
+    let exact = network_of(alloc, 300, 7200, &[1, 2, 3, 4], &TWO)?;
+    let caught = pairs(alloc, &exact, 1, 4, 28500, 2)?;
+    assert!(rt; caught.as_slice() == [(35700, 0, 1), (30600, 2, 3)].as_slice());
+    let late = network_of(alloc, 301, 7200, &[1, 2, 3, 4], &TWO)?;
+    let missed = pairs(alloc, &late, 1, 4, 28500, 2)?;
+    assert!(rt; missed.as_slice() == [(35700, 0, 1)].as_slice());
+    let joined = network_of(alloc, 240, 7200, &[1, 2, 2, 4], &TWO)?;
+    let stayed = pairs(alloc, &joined, 1, 4, 28500, 2)?;
+    assert!(rt; stayed.as_slice() == [(35700, 0, 1), (30600, 2, 3)].as_slice());
     Ok(())
 }
 
