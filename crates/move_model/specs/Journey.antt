@@ -5,7 +5,9 @@
 --     IsJourney n s journey t a       the journey leads from s to t, where it arrives at second a
 --     HasPair n s d t pair            some journey from s at second d to t has this pair
 --     IsPareto n s d t k pairs        these pairs are the Pareto set of all journeys with at most k rides
+--     IsParetoList n s d t k pairs    they are it in rising order of the number of rides, each once
 use Rattle.std.specs.Prelude.{◌≡◌, ℕ, ◌+◌, ◌<◌, ◌≤◌, ◌↔◌, IsTrue, List, [], ◌∷◌, length, slice_get, Contains, Option, Some, None}
+use Rattle.std.specs.List.{AllAdjacentBelow}
 use Rattle.move_model.specs.declared.network.Network.{Network}
 use Rattle.move_model.specs.declared.network.NodeNo.{NodeNo}
 use Rattle.move_model.specs.declared.network.TripNo.{TripNo}
@@ -56,6 +58,11 @@ pub record IsBest (n : Network) (s : NodeNo) (d : ℕ) (t : NodeNo) (limit : ℕ
 
 abbrev pub IsPareto : Network → NodeNo → ℕ → NodeNo → ℕ → List Pair → Type 0
 IsPareto n s d t limit pairs = (pair : Pair) → Contains pairs pair ↔ IsBest n s d t limit pair
+
+-- No two pairs of the Pareto set have the same number of rides, so there is one such list.
+pub record IsParetoList (n : Network) (s : NodeNo) (d : ℕ) (t : NodeNo) (limit : ℕ) (pairs : List Pair) : Type 0 where
+  pub exact : IsPareto n s d t limit pairs
+  pub rising : AllAdjacentBelow (λ p q. p.trips < q.trips) pairs (length pairs)
 
 -- some journey with at most k rides arrives at this second
 pub record HasArrival (n : Network) (s : NodeNo) (d : ℕ) (t : NodeNo) (k arrive : ℕ) : Type 0 where

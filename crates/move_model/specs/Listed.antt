@@ -5,7 +5,12 @@
 --     HasTransfer list x y m             the stop is the same, or the list has the walk, of m seconds
 --     GoesOnListed n last list x r rides a      from stop x at second r by these rides to the end at second a
 --     IsListed n first last list d rides a      from second d by these rides to the end at second a
---     IsEarliest n s d t k arrive        the least arrival of the journeys with at most k rides, or None
+--     HasRides n s d t rides a           a journey with these rides from s at second d to t at second a
+--     HasListedRides n first last list d a k    a listed journey by second a with at most k rides
+--     ListedSuffice n s t first last list       listed journeys are journeys, and none other is needed
+--     HasListedArrival n first last list d k a  a listed journey with at most k rides ends at second a
+--     HasBest n first last list d k best        the least such arrival, or None
+--     earlier d foot best                the earlier of the walk on foot and of a listed journey
 use Rattle.std.specs.Prelude.{◌≡◌, ℕ, ◌+◌, ◌<◌, ◌≤◌, ◌⊎◌, min, List, [], ◌∷◌, length, slice_get, slice_index_or, Contains, Option, Some, None}
 use Rattle.move_model.specs.declared.network.Network.{Network}
 use Rattle.move_model.specs.declared.network.NodeNo.{NodeNo}
@@ -76,7 +81,7 @@ pub record ListedSuffice (n : Network) (s t : NodeNo) (first last : List (Option
       → HasFoot n s t journey.depart arrive ⊎ HasListedRides n first last list journey.depart arrive (length journey.rides)
 
 -- a listed journey with at most k rides arrives at this second
-pub record HasExactly (n : Network) (first last : List (Option ℕ)) (list : List Shortcut) (d k arrive : ℕ) : Type 0 where
+pub record HasListedArrival (n : Network) (first last : List (Option ℕ)) (list : List Shortcut) (d k arrive : ℕ) : Type 0 where
   pub rides : List Ride
   pub listed : IsListed n first last list d rides arrive
   pub few : length rides ≤ k
@@ -84,7 +89,7 @@ pub record HasExactly (n : Network) (first last : List (Option ℕ)) (list : Lis
 -- the least arrival of the listed journeys with at most k rides, or None where there is none
 abbrev pub HasBest : Network → List (Option ℕ) → List (Option ℕ) → List Shortcut → ℕ → ℕ → Option ℕ → Type 0
 HasBest n first last list d k (Some arrive) =
-    HasExactly n first last list d k arrive
+    HasListedArrival n first last list d k arrive
     × ((rides : List Ride) (other : ℕ) → length rides ≤ k → IsListed n first last list d rides other → arrive ≤ other)
 HasBest n first last list d k None =
     (rides : List Ride) (other : ℕ) → length rides ≤ k → IsListed n first last list d rides other → ⊥

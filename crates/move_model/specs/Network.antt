@@ -1,6 +1,7 @@
 -- Networks.
 --     streets n                  the street graph of n
 --     IsNetwork n                n keeps the rules of a network
+--     IsNumbered n               the trips, and the calls of each, can be numbered by 32 bits
 --     node_of n x                the vertex of the stop x
 --     IsStopDistance n x y m     the distance between the vertices of two stops
 use Rattle.std.specs.Prelude.{◌≡◌, ℕ, ◌<◌, ◌≤◌, ◌⊎◌, List, [], ◌∷◌, length, slice_get, All, Option, Some, None}
@@ -36,6 +37,10 @@ pub record IsNetwork (n : Network) : Type 0 where
   pub stops_stand : All (λ stop. IsVertex (streets n) stop.node) n.stops
   pub trips_go : All (IsTrip n) n.trips
   pub trips_in_order : AllAdjacentBelow (λ trip next. IsAtOrBefore trip.calls next.calls) n.trips (length n.trips)
+
+pub record IsNumbered (n : Network) : Type 0 where
+  pub trips : length n.trips ≤ 4294967296
+  pub calls : All (λ trip. length trip.calls ≤ 4294967296) n.trips
 
 -- 0 where there is no such stop
 abbrev pub node_of_stop : Option Stop → NodeNo

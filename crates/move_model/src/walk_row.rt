@@ -1,6 +1,6 @@
 // Optional seconds, one for each stop.
 ghost use Rattle.std.specs.Prelude.{◌≡◌, ◌<◌, ◌≤◌, ◌^◌, length, slice_get, slice_set, replicate, None, IfOk, IfSome, Option};
-ghost use Rattle.move_model.specs.Optional.{entry_of};
+ghost use Rattle.move_model.specs.Optional.{optional_of};
 
 use crate::StopNo;
 use std::alloc::{AllocError, Global};
@@ -12,7 +12,7 @@ const ABSENT: u64 = u64::MAX;
 // How optional seconds are stored.
 fn stored(seconds: Option<u64>) -> u64
     requires { IfSome seconds (λ m. m ≤ 9000000000000000000) }
-    ensures { entry_of result ≡ seconds }
+    ensures { optional_of result ≡ seconds }
 {
     match seconds {
         Some(some) => some,
@@ -28,11 +28,11 @@ pub struct WalkRow {
 
 impl Model for WalkRow {
     ghost use Rattle.std.specs.Prelude.{List, ℕ, Option, map};
-    ghost use Rattle.move_model.specs.Optional.{entry_of};
+    ghost use Rattle.move_model.specs.Optional.{optional_of};
 
     ghost Value = { List (Option ℕ) };
 
-    ghost view = { λ row. map entry_of row.seconds.items };
+    ghost view = { λ row. map optional_of row.seconds.items };
 }
 
 impl WalkRow {

@@ -8,12 +8,12 @@ use Rattle.move_model.specs.Streets.{IsDistance, HasDistance}
 use Rattle.move_model.specs.Network.{streets}
 use Rattle.move_model.specs.Journey.{HasArrival, HasEarliest}
 use Rattle.move_model.specs.Journey.Travels.{walks}
-use Rattle.move_model.specs.Listed.{HasBest, HasExactly, earlier, ListedSuffice, HasFoot, HasListedRides}
+use Rattle.move_model.specs.Listed.{HasBest, HasListedArrival, earlier, ListedSuffice, HasFoot, HasListedRides}
 use Rattle.pareto_laws.proofs.Distances.{distance_same}
 
 module _ (n : Network) (list : List Shortcut) (s t : NodeNo) (first last : List (Option ℕ)) (d k : ℕ)
     (suffice : ListedSuffice n s t first last list) where
-  listed_arrival : (arrive : ℕ) → HasExactly n first last list d k arrive → HasArrival n s d t k arrive
+  listed_arrival : (arrive : ℕ) → HasListedArrival n first last list d k arrive → HasArrival n s d t k arrive
   listed_arrival arrive has =
       let real = suffice.real d has.rides arrive has.listed in
       record { journey = real.journey; departs = real.departs; leads = real.leads; few = omega (arith, has.few, ap length real.rides_are) }

@@ -7,7 +7,7 @@ use Rattle.move_model.specs.declared.network.NodeNo.{NodeNo}
 use Rattle.move_model.specs.declared.journey.Pair.{Pair}
 use Rattle.move_model.specs.declared.journey.Shortcut.{Shortcut}
 use Rattle.move_model.specs.Shortcut.{IsLess, IsShortcutList}
-use Rattle.pareto_laws.specs.ParetoList.{IsParetoList}
+use Rattle.move_model.specs.Journey.{IsParetoList}
 use Rattle.pareto_laws.proofs.Lexicographic.{IsLess-irreflexive, IsLess-trans}
 use Rattle.pareto_laws.proofs.LeastArcs.{Contains-here, Contains-later, Contains-cons_cases}
 

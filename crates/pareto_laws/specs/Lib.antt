@@ -1,3 +1,2 @@
 pub mod Leg
-pub mod ParetoList
 pub mod TransferList

@@ -6,10 +6,9 @@ ghost use Rattle.move_model.specs.declared.journey.Pair.{Pair};
 ghost use Rattle.move_model.specs.declared.journey.Shortcut.{Shortcut};
 ghost use Rattle.move_model.specs.Streets.{Streets, IsStreets, IsDistance, HasDistance};
 ghost use Rattle.move_model.specs.Network.{IsNetwork, streets};
-ghost use Rattle.move_model.specs.Journey.{IsBest, IsStep, HasEarliest};
+ghost use Rattle.move_model.specs.Journey.{IsBest, IsParetoList, IsStep, HasEarliest};
 ghost use Rattle.move_model.specs.Shortcut.{IsShortcutList, Suffices};
 ghost use Rattle.move_model.specs.Listed.{HoldsFirst, HoldsLast, ListedSuffice, HasBest, earlier};
-ghost use Rattle.pareto_laws.specs.ParetoList.{IsParetoList};
 ghost use Rattle.pareto_laws.specs.TransferList.{HoldsDistances, IsAllPairs};
 
 /// The list of all shortcuts of a network suffices: for every journey there is one between the
