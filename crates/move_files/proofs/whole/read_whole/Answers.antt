@@ -21,6 +21,9 @@ loop-piece-preserved g c = record {
 pub returns-in-Ok-eq0-clause-ok : goal.returns-in-Ok-eq0-clause-ok
 returns-in-Ok-eq0-clause-ok g c = λ t. front-whole _ _ _ _ c.in-Ok-eq0.field-0-test (c.loop-piece.invariant.front t) (rw c.loop-piece.invariant.contents at (c.in-Ok-eq0.ensures.goes_on t))
 
+pub returns-in-Ok-eq0-clause-within : goal.returns-in-Ok-eq0-clause-within
+returns-in-Ok-eq0-clause-within g c = omega (arith, c.in-Ok-eq0.ensures.grown, c.in-Ok-eq0.field-0-test)
+
 pub returns-in-Ok-eq0-clause-contents : goal.returns-in-Ok-eq0-clause-contents
 returns-in-Ok-eq0-clause-contents g c = c.read_more.ensures.contents ∙ c.loop-piece.invariant.contents
 
