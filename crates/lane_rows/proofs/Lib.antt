@@ -1,0 +1,3 @@
+mod Catch
+mod Sorted
+mod Lesser
