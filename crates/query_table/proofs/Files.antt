@@ -9,7 +9,7 @@ use Rattle.move_model.specs.declared.refusal.Refusal.{Refusal}
 use Rattle.move_model.specs.declared.refusal.Stopped.{Stopped}
 use Rattle.move_model.specs.declared.refusal.Stopped.TheVariants as stopped
 use Rattle.refusals.specs.Refusal.{IsFirstRefusal, Accepted, first_cause, or_then}
-use Rattle.refusals.proofs.RefusalLemmas.{first_cause-append, first_cause-map, refused_whole, refused_row, each_holds}
+use Rattle.refusals.proofs.RefusalLemmas.{file_not_both, one_file_refusal, first_cause-append, first_cause-map, refused_whole, refused_row, each_holds}
 use Rattle.tables.specs.Table.{header_of, rows_of, row_at}
 use Rattle.query_table.specs.declared.columns.Columns.{Columns}
 use Rattle.query_table.specs.Rules.{column_rules, columns_of, query_rules}
@@ -33,7 +33,7 @@ columns_refused n bytes cause r broken e =
     let first : first_cause file_rules bytes ≡ Some cause = file_cause bytes ∙ rw broken refl in
     rw (← e) (refl, refused_whole file_rules bytes _ _ _ cause first)
 
-pub rows_refused : (n : Network) (bytes : List ℕ) (count : ℕ) (r : Refusal) → first_cause column_rules (columns_in bytes) ≡ None → count ≡ length (rows_of bytes) → 100000 < count
+pub rows_refused : (n : Network) (bytes : List ℕ) (count : ℕ) (r : Refusal) → first_cause column_rules (columns_in bytes) ≡ None → count ≡ length (rows_of bytes) → 100000 < length (rows_of bytes)
     → refusal_at 0 (cause.Limit count) ≡ r → IsQueryRefusal n bytes r
 unfolding IsQueryRefusal rows_broken
 rows_refused n bytes count r holds is many e =
@@ -57,3 +57,14 @@ pub file_accepted : (n : Network) (bytes : List ℕ) → first_cause column_rule
     → Accepted (query_rules n (columns_in bytes)) (row_at (rows_of bytes)) (length (rows_of bytes)) → IsQueryTable n bytes
 unfolding IsQueryTable
 file_accepted n bytes holds few rows = (each_holds file_rules bytes (file_holds bytes holds few), rows)
+
+-- a file is not both accepted and refused, and it has one first refusal
+pub not_both : (n : Network) (bytes : List ℕ) (r : Refusal) → IsQueryTable n bytes → IsQueryRefusal n bytes r → ⊥
+unfolding IsQueryTable IsQueryRefusal
+not_both n bytes r table refused = file_not_both file_rules bytes _ _ _ r.row r.cause table refused.1
+
+pub one_refusal : (n : Network) (bytes : List ℕ) (r s : Refusal) → IsQueryRefusal n bytes r → IsQueryRefusal n bytes s → r ≡ s
+unfolding IsQueryRefusal
+one_refusal n bytes r s a b =
+    let same = one_file_refusal file_rules bytes _ _ _ r.row s.row r.cause s.cause a.1 b.1 in
+    rw (a.0, b.0, same.0, same.1) refl

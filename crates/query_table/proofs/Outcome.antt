@@ -2,6 +2,7 @@
 use Rattle.std.proofs.Common.{◌≡◌, ◌∙◌, ◌≤◌, ℕ, List, length, map, None, refl, sym, ap, arith}
 use Rattle.std.specs.Prelude.{All, Result, Ok, Err, OnOk, IfOk, IsErrOf}
 use Rattle.std.proofs.lemmas.List.{length-map}
+use Rattle.move_model.specs.Check.{Stands}
 use Rattle.move_model.specs.declared.network.Network.{Network}
 use Rattle.move_model.specs.declared.query.Query.{Query}
 use Rattle.move_model.specs.declared.refusal.Refusal.{Refusal}
@@ -14,7 +15,7 @@ use Rattle.query_table.specs.declared.columns.Columns.{Columns}
 use Rattle.query_table.specs.Rules.{column_rules, query_rules, query_of}
 use Rattle.query_table.specs.Queries.{IsQuery, IsQueryTable, IsQueryRefusal, columns_in, queries_of}
 use Rattle.query_table.proofs.Files.{file_accepted, row_refused}
-use Rattle.query_table.proofs.Sound.{Stand, all_sound}
+use Rattle.query_table.proofs.Sound.{all_sound}
 
 -- the header was read to these columns, and these are the rows
 pub record Opened (bytes : List ℕ) (columns : Columns) (rows : List (List (List ℕ))) : Type 0 where
@@ -46,6 +47,6 @@ pub few : (n : Network) (bytes : List ℕ) (columns : Columns) (rows : List (Lis
 few n bytes columns rows (Ok found) o h = omega (arith, ap length h, length-map rows (query_of n columns), ap length o.rows_are, o.few)
 few n bytes columns rows (Err e) o h = tt
 
-pub sound : (n : Network) (bytes : List ℕ) (r : Outcome) → Stand n → OnOk r (IsQueryTable n bytes) → IfOk r (λ queries. queries ≡ queries_of n bytes) → IfOk r (All (IsQuery n))
+pub sound : (n : Network) (bytes : List ℕ) (r : Outcome) → All (Stands n) n.stops → OnOk r (IsQueryTable n bytes) → IfOk r (λ queries. queries ≡ queries_of n bytes) → IfOk r (All (IsQuery n))
 sound n bytes (Ok found) stand table is = rw is (all_sound n bytes stand table)
 sound n bytes (Err e) stand table is = tt

@@ -10,6 +10,7 @@ use Rattle.move_model.specs.declared.query.Query.{Query}
 use Rattle.move_model.specs.declared.query.Query.TheVariants as query
 use Rattle.move_model.specs.declared.refusal.Cause.{Cause}
 use Rattle.move_model.specs.declared.refusal.Cause.TheVariants as cause
+use Rattle.move_model.specs.Check.{Stands}
 use Rattle.move_model.specs.Network.{streets, node_of_stop}
 use Rattle.move_model.specs.Streets.{IsVertex}
 use Rattle.refusals.specs.Refusal.{HoldAt, Accepted, or_then}
@@ -20,10 +21,6 @@ use Rattle.query_table.specs.declared.columns.Columns.{Columns}
 use Rattle.query_table.specs.Places.{begins, stop_named, node_broken, stop_broken, place_broken, node_in, place_in}
 use Rattle.query_table.specs.Rules.{is_range, window_broken, last_broken, query_rules, query_of}
 use Rattle.query_table.specs.Queries.{IsQuery, IsQueryTable, columns_in, queries_of}
-
--- every stop stands at a vertex
-abbrev pub Stand : Network → Type 0
-Stand n = All (λ stop. IsVertex (streets n) stop.node) n.stops
 
 found-of : {X : Type 0} (P : X → Type 0) (b : Bool) (x s : X) (found : Option X) → P x → (found ≡ Some s → P s) → cond b (Some x) found ≡ Some s → P s
 found-of P true x s found here later e = let there : x ≡ s = cc e in subst P there here
@@ -57,9 +54,9 @@ number_vertex n text e =
     let low = both (is_some (number_of text)) (nat_le 1 (number_in text)) parts.0 in
     record { from_one = le-of 1 (number_in text) low.1; to_nodes = le-of (number_in text) n.nodes parts.1 }
 
-named_vertex : (n : Network) (id : List ℕ) → Stand n → stop_broken n id ≡ None → IsVertex (streets n) (node_of_stop (stop_named id n.stops))
+named_vertex : (n : Network) (id : List ℕ) → All (Stands n) n.stops → stop_broken n id ≡ None → IsVertex (streets n) (node_of_stop (stop_named id n.stops))
 unfolding stop_broken
-named_vertex n id stand e = stop_vertex n (stop_named id n.stops) cause.UnknownStop (λ s there. found-holds (λ (stop : Stop). IsVertex (streets n) stop.node) _ n.stops s stand there) e
+named_vertex n id stand e = stop_vertex n (stop_named id n.stops) cause.UnknownStop (λ s there. found-holds (Stands n) _ n.stops s stand there) e
 
 by-cases : (n : Network) (b c : Bool) (x y : Option Cause) (v w : NodeNo) → (x ≡ None → IsVertex (streets n) v) → (y ≡ None → IsVertex (streets n) w)
     → (if b then x else if c then y else Some cause.Place) ≡ None → IsVertex (streets n) (if b then v else w)
@@ -68,7 +65,7 @@ by-cases n false true x y v w f g e = g e
 by-cases n false false x y v w f g e = cc e
 
 -- a place that breaks no rule is a vertex
-place_vertex : (n : Network) (text : List ℕ) → Stand n → place_broken n text ≡ None → IsVertex (streets n) (node_in n text)
+place_vertex : (n : Network) (text : List ℕ) → All (Stands n) n.stops → place_broken n text ≡ None → IsVertex (streets n) (node_in n text)
 unfolding place_broken node_in
 place_vertex n text stand e =
     by-cases n (begins (codes "node:") text) (begins (codes "stop:") text) (node_broken n (drop 5 text)) (stop_broken n (drop 5 text)) _ _
@@ -102,7 +99,7 @@ either n true x y f g = f refl
 either n false x y f g = g
 
 -- the query of a row that breaks no rule
-pub query_sound : (n : Network) (c : Columns) (row : List (List ℕ)) → Stand n → HoldAt (query_rules n c) row → IsQuery n (query_of n c row)
+pub query_sound : (n : Network) (c : Columns) (row : List (List ℕ)) → All (Stands n) n.stops → HoldAt (query_rules n c) row → IsQuery n (query_of n c row)
 unfolding query_rules query_of
 query_sound n c row stand h =
     let from = place_vertex n (cell c.from row) stand h.1.0 in
@@ -113,7 +110,7 @@ query_sound n c row stand h =
     (from, to, window.0, time_in-le (cell c.last row), window.1, limit))
     (from, to, time_in-le (cell c.first row), limit)
 
-pub all_sound : (n : Network) (bytes : List ℕ) → Stand n → IsQueryTable n bytes → All (IsQuery n) (queries_of n bytes)
+pub all_sound : (n : Network) (bytes : List ℕ) → All (Stands n) n.stops → IsQueryTable n bytes → All (IsQuery n) (queries_of n bytes)
 unfolding IsQueryTable queries_of
 all_sound n bytes stand table = λ k d lt.
     let within : k < length (rows_of bytes) = omega (arith, lt, length-map (rows_of bytes) (query_of n (columns_in bytes))) in

@@ -12,3 +12,6 @@ mod row;
 mod stops;
 
 pub use read::read_queries;
+
+#[cfg(test)]
+mod tests;

@@ -1,8 +1,7 @@
 // Files of queries.
 ghost use Rattle.std.specs.Prelude.{◌≡◌, ◌≤◌, ℕ, List, length, map, All, IfOk, OnOk, IsErrOf};
 ghost use Rattle.csv.specs.Records.{fields_of};
-ghost use Rattle.move_model.specs.Network.{streets};
-ghost use Rattle.move_model.specs.Streets.{IsVertex};
+ghost use Rattle.move_model.specs.Check.{Stands};
 ghost use Rattle.move_model.specs.declared.refusal.Cause.{Cause};
 ghost use Rattle.move_model.specs.declared.refusal.Refusal.{Refusal};
 ghost use Rattle.refusals.specs.Refusal.{Accepted, IsFirstRefusal};
@@ -15,7 +14,7 @@ use crate::row::{query, test_row};
 use crate::stops::{StopIds, number_stops};
 use move_model::{Cause, FileKind, Network, Queries, Refusal, Stopped};
 use std::alloc::Global;
-use tables::{ByteRecord, Rows, Table, count_rows, open_table};
+use tables::{ByteRecord, Rows, Table, open_table, rows_above};
 
 /// The greatest number of queries of a file.
 const MOST_ROWS: usize = 100_000;
@@ -81,11 +80,8 @@ pub fn read_queries(alloc: Global, bytes: &[u8], network: &Network) -> Result<Qu
 
     // What the queries keep.
     ensures few { IfOk result (λ queries. length queries ≤ 100000) }
-    ensures sound { All (λ stop. IsVertex (streets network.now) stop.node) network.now.stops → IfOk result (All (spec.IsQuery network.now)) }
+    ensures sound { All (Stands network.now) network.now.stops → IfOk result (All (spec.IsQuery network.now)) }
 {
-    let Ok(count) = count_rows(alloc, bytes) else {
-        return Err(Stopped::NoMemory);
-    };
     let Ok(table) = open_table(alloc, bytes) else {
         return Err(Stopped::NoMemory);
     };
@@ -97,7 +93,10 @@ pub fn read_queries(alloc: Global, bytes: &[u8], network: &Network) -> Result<Qu
     if let Err(cause) = require_columns(columns) {
         return Err(refused(0, cause));
     }
-    if count > MOST_ROWS {
+    let Ok(above) = rows_above(alloc, bytes, MOST_ROWS) else {
+        return Err(Stopped::NoMemory);
+    };
+    if let Some(count) = above {
         return Err(refused(0, Cause::Limit(count as u64)));
     }
     let Ok(ids) = number_stops(alloc, network.stops.as_slice()) else {

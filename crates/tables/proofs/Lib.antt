@@ -10,3 +10,4 @@ pub mod NameLemmas
 pub mod TableLemmas
 pub mod RowLemmas
 pub mod ValueLemmas
+pub mod LineEnds

@@ -65,18 +65,18 @@ choose : (n : ℕ) (b : Bool) (x y : Option Read) → (b ≡ true → Takes n x)
 choose n true x y f g = f refl
 choose n false x y f g = g
 
-takes : (cfg : Config) (xs : List ℕ) (s : State) (fields : List (List ℕ)) (part : List ℕ) → Takes (length xs) (next_record cfg s fields part xs)
+pub one-record : (cfg : Config) (xs : List ℕ) (s : State) (fields : List (List ℕ)) (part : List ℕ) → Takes (length xs) (next_record cfg s fields part xs)
 unfolding next_record
-takes cfg [] s fields part = choose 0 (ends_at_end s) (Some (fields ++ part ∷ [], st.StartRecord, [])) None (λ e. (omega arith, refl)) tt
-takes cfg (c ∷ xs) s fields part =
+one-record cfg [] s fields part = choose 0 (ends_at_end s) (Some (fields ++ part ∷ [], st.StartRecord, [])) None (λ e. (omega arith, refl)) tt
+one-record cfg (c ∷ xs) s fields part =
     choose (suc (length xs)) (is_end (step cfg s c).1)
     (Some (fields_after (step cfg s c).1 fields part, (step cfg s c).0, xs))
     (next_record cfg (step cfg s c).0 (fields_after (step cfg s c).1 fields part) (field_after (step cfg s c).1 c part) xs)
     (λ e. (omega arith, (each-step cfg s c).ends e))
-    (weaker _ _ (takes cfg xs _ _ _))
+    (weaker _ _ (one-record cfg xs _ _ _))
 
 -- at the end of a text there is no record, in a state that ends none
-none-at-end : (cfg : Config) (s : State) → ends_at_end s ≡ false → next_record cfg s [] [] [] ≡ None
+pub none-at-end : (cfg : Config) (s : State) → ends_at_end s ≡ false → next_record cfg s [] [] [] ≡ None
 unfolding next_record
 none-at-end cfg s e = rw e refl
 
@@ -90,7 +90,7 @@ fuel-of : (cfg : Config) (n m : ℕ) (s : State) (xs : List ℕ) (o : Option Rea
     → records_next (records_from cfg n) o ≡ records_next (records_from cfg m) o
 fuel-of cfg n m s xs None reads a b between more = refl
 fuel-of cfg n m s xs (Some p) reads a b between more =
-    let t = rw reads at (takes cfg xs s [] []) in
+    let t = rw reads at (one-record cfg xs s [] []) in
     let some : 0 < length xs = long cfg s xs p between reads in
     ap (λ rest. p.0 ∷ rest) (more p.1 p.2 (omega (arith, t.0)) (omega (arith, t.0)) t.1)
 
@@ -107,7 +107,7 @@ pub first-of : (cfg : Config) (s : State) (xs : List ℕ) (p : Read) → ends_at
     → (records_from cfg (length xs + 1) s xs ≡ p.0 ∷ records_from cfg (length p.2 + 1) p.1 p.2) × (ends_at_end p.1 ≡ false)
 unfolding records_from
 first-of cfg s xs p between reads =
-    let t = rw reads at (takes cfg xs s [] []) in
+    let t = rw reads at (one-record cfg xs s [] []) in
     let some : 0 < length xs = long cfg s xs p between reads in
     let same : records_from cfg (length xs) p.1 p.2 ≡ records_from cfg (length p.2 + 1) p.1 p.2 = fuel cfg (length xs) (length p.2 + 1) p.1 p.2 (omega (arith, t.0)) (omega arith) t.1 in
     (rw (add-one, reads) (ap (λ rest. p.0 ∷ rest) same), t.1)
@@ -123,7 +123,7 @@ records_le-of : (cfg : Config) (n : ℕ) (s : State) (xs : List ℕ) (o : Option
     → length (records_next (records_from cfg n) o) ≤ length xs
 records_le-of cfg n s xs None reads between more = omega arith
 records_le-of cfg n s xs (Some p) reads between more =
-    let t = rw reads at (takes cfg xs s [] []) in
+    let t = rw reads at (one-record cfg xs s [] []) in
     let some : 0 < length xs = long cfg s xs p between reads in
     omega (arith, t.0, more p.1 p.2 t.1)
 

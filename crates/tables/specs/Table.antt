@@ -40,6 +40,10 @@ rows_of bytes = drop 1 (table_of bytes)
 abbrev pub row_at : List (List (List ℕ)) → ℕ → List (List ℕ)
 row_at rows i = slice_index_or rows i []
 
+-- a line feed or a carriage return, at which a record may end
+abbrev pub is_line_end : ℕ → Bool
+is_line_end c = (c == 10) || (c == 13)
+
 -- a space or a tab
 abbrev pub is_blank : ℕ → Bool
 is_blank c = (c == 32) || (c == 9)

@@ -1,8 +1,8 @@
 // A table, one record at a time.
-ghost use Rattle.std.specs.Prelude.{◌≡◌, [], ◌∷◌, ℕ, List, length, drop, true, false, IfOk, OnErr};
+ghost use Rattle.std.specs.Prelude.{◌≡◌, [], ◌∷◌, length, count_by, nat_lt, if◌then◌else◌, IfOk, OnErr};
 ghost use Rattle.std.specs.Bool.{MatchBool};
 ghost use Rattle.csv.specs.Records.{fields_of};
-ghost use Rattle.tables.specs.Table.{cut_marks, table_of, header_of, rows_of};
+ghost use Rattle.tables.specs.Table.{cut_marks, table_of, header_of, rows_of, is_line_end};
 
 use csv::{ByteRecord, Reader, ReaderBuilder};
 use std::alloc::{AllocError, Global};
@@ -112,4 +112,29 @@ pub fn count_rows(alloc: Global, bytes: &[u8]) -> Result<usize, AllocError>
         count += 1;
     }
     Ok(count)
+}
+
+// How many bytes end a line, of which each record but the last has one at least.
+fn count_line_ends(bytes: &[u8]) -> usize
+    ensures { result ≡ count_by is_line_end bytes.now }
+{
+    bytes
+        .iter()
+        .filter(|byte| **byte == b'\n' || **byte == b'\r')
+        .count()
+}
+
+/// The number of rows behind the header where it is above a limit, else None. A file of few lines is not parsed for it.
+pub fn rows_above(alloc: Global, bytes: &[u8], limit: usize) -> Result<Option<usize>, AllocError>
+    ensures { IfOk result (λ above. above ≡ (if nat_lt limit (length (rows_of bytes.now)) then Some (length (rows_of bytes.now)) else None)) }
+{
+    if count_line_ends(bytes) <= limit {
+        return Ok(None);
+    }
+    let count = count_rows(alloc, bytes)?;
+    if count > limit {
+        Ok(Some(count))
+    } else {
+        Ok(None)
+    }
 }
