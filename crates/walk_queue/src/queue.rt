@@ -62,6 +62,7 @@ impl<K: Ord + Copy> MinQueue<K> {
     /// Puts a key at a place, or lowers the key that the place has. It answers false, and changes
     /// nothing, exactly where the place has a key that is not greater. It takes no memory: each place
     /// has one key at most, so there is always room.
+    #[inline]
     pub fn put_or_lower(&mut self, place: u32, key: K) -> bool
         requires { place < length self.old }
         ensures answer { result ≡ improves K.cmp key (key_at self.old place) }
@@ -89,6 +90,7 @@ impl<K: Ord + Copy> MinQueue<K> {
 
     /// Takes out the least key with its place, and of equal keys that at the least place. It answers
     /// None exactly where no place has a key.
+    #[inline]
     pub fn take_least(&mut self) -> Option<(u32, K)>
         ensures none { IsNone result ↔ IsEmpty self.old }
         ensures least { IfSome result (λ taken. IsLeast K.cmp self.old taken.0 taken.1) }
