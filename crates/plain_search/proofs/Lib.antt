@@ -1,1 +1,9 @@
-pub mod Weights
+pub mod Rows
+pub mod Walked
+pub mod Riding
+pub mod StreetLaws
+pub mod LevelLaws
+pub mod JourneyLaws
+pub mod Legs
+pub mod Pareto
+pub mod Found

@@ -1,1 +1,4 @@
 pub mod Row
+pub mod Ridden
+pub mod Levels
+pub mod Answer

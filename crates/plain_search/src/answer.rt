@@ -1,12 +1,22 @@
 // The pairs of a point query, each with a journey.
+ghost use Rattle.std.specs.Prelude.{◌≡◌, ◌<◌, ◌≤◌, length, MatchBool};
+ghost use Rattle.move_model.specs.declared.network.Call.{Call as CallValue};
+ghost use Rattle.move_model.specs.Network.{node_of as node_of_lem};
+ghost use Rattle.move_model.specs.Journey.{HasCall};
+ghost use Rattle.plain_search.specs.Row.{HasWayBy};
+ghost use Rattle.plain_search.specs.Levels.{before_of};
+
 use crate::rides::node_of;
 use crate::rounds::rows_from;
-use crate::way::{Row, way_to};
-use move_model::{Finding, Findings, Journey, List, Network, NoMemory, NodeNo, Pair, Ride, Walk};
+use crate::way::{Row, is_better, way_to};
+use move_model::{Finding, Findings, Journey, List, Network, NoMemory, NodeNo, Pair, Ride};
 use std::alloc::Global;
 
 /// The vertex at which a ride is boarded.
-fn boarded_at(network: &Network, ride: Ride) -> NodeNo {
+fn boarded_at(network: &Network, ride: Ride) -> NodeNo
+    ensures { (call : CallValue) → HasCall network.now ride.trip ride.board call
+        → result ≡ node_of_lem network.now call.stop }
+{
     let Some(trip) = network.trips.get(ride.trip.0 as usize) else {
         return NodeNo(0);
     };
@@ -16,35 +26,46 @@ fn boarded_at(network: &Network, ride: Ride) -> NodeNo {
     }
 }
 
-/// The journey of the best way to a vertex with at most this number of rides, which the last row is for.
+/// The journey of the best way to a vertex with at most k rides, put together from its end.
 fn journey_to(
     alloc: Global,
     network: &Network,
     rows: &[Row],
+    k: usize,
     depart: u32,
     to: NodeNo,
-) -> Result<Journey, NoMemory> {
-    let mut walks: Vec<Walk> = Vec::new(alloc);
-    let mut rides: Vec<Ride> = Vec::new(alloc);
+) -> Result<Journey, NoMemory>
+    requires { k < length rows.now }
+{
+    let mut walks = Vec::new(alloc);
+    let mut rides = Vec::new(alloc);
     let mut node = to;
-    for row in rows.iter().rev() {
-        let Some(way) = way_to(row.as_slice(), node) else {
+    for level in (0..k + 1).rev() {
+        let Some(way) = way_to(rows[level].as_slice(), node) else {
             break;
         };
-        walks.push(List::from_slice(alloc, way.walk.as_slice())?)?;
+        walks.insert(0, List::from_slice(alloc, way.walk.as_slice())?)?;
         let Some(ride) = way.ride else {
             break;
         };
-        rides.push(ride)?;
+        rides.insert(0, ride)?;
         node = boarded_at(network, ride);
     }
-    walks.reverse();
-    rides.reverse();
     Ok(Journey {
         depart,
         walks: List::from_vec(walks),
         rides: List::from_vec(rides),
     })
+}
+
+/// Whether no way with fewer than k rides arrives at a vertex by this second.
+fn is_gain(rows: &[Row], k: usize, to: NodeNo, second: u64) -> bool
+    requires { k ≤ length rows.now }
+    ensures { MatchBool result
+        (HasWayBy (before_of rows.now k) to second → ⊥)
+        ((0 < k) × (to.0 < length (before_of rows.now k) → HasWayBy (before_of rows.now k) to second)) }
+{
+    k == 0 || is_better(rows[k - 1].as_slice(), to, second)
 }
 
 /// The Pareto set of the arrival seconds and numbers of rides of all journeys with at most `limit` rides, from a vertex
@@ -59,23 +80,18 @@ pub fn point_findings(
     limit: u8,
 ) -> Result<Findings, NoMemory> {
     let rows = rows_from(alloc, network, from, depart, limit)?;
+    let rows = rows.as_slice();
     let mut found = List::new(alloc);
-    let mut best: Option<u64> = None;
     for k in 0..rows.len() {
-        if let Some(way) = way_to(rows[k].as_slice(), to) {
-            let is_earlier = match best {
-                Some(second) => way.second < second,
-                None => true,
+        if let Some(way) = way_to(rows[k].as_slice(), to)
+            && is_gain(rows, k, to, way.second)
+        {
+            let journey = journey_to(alloc, network, rows, k, depart, to)?;
+            let pair = Pair {
+                arrive: way.second,
+                trips: k as u8,
             };
-            if is_earlier {
-                let journey = journey_to(alloc, network, &rows[..k + 1], depart, to)?;
-                let pair = Pair {
-                    arrive: way.second,
-                    trips: k as u8,
-                };
-                found.push(Finding { pair, journey })?;
-                best = Some(way.second);
-            }
+            found.push(Finding { pair, journey })?;
         }
     }
     Ok(found)

@@ -1,7 +1,8 @@
 // Ways to vertices, and rows of them.
-ghost use Rattle.std.specs.Prelude.{◌≡◌, ◌+◌, ◌<◌, length, replicate, slice_get, IfOk, IsTrue, Some, None};
+ghost use Rattle.std.specs.Prelude.{◌≡◌, ◌+◌, ◌<◌, ◌≤◌, [], ◌∷◌, ◌++◌, length, replicate, IfOk, IfSome, IfNone, None};
 ghost use Rattle.std.specs.Bool.{OnTrue, OnFalse};
-ghost use Rattle.plain_search.specs.Row.{HasWayBy};
+ghost use Rattle.plain_search.specs.declared.way.Way.{Way as WayValue};
+ghost use Rattle.plain_search.specs.Row.{IsWayTo, HasWayBy};
 
 use move_model::{List, NoMemory, NodeNo, Ride, Walk};
 use std::alloc::Global;
@@ -16,10 +17,13 @@ pub struct Way {
 }
 
 /// The best known way to each vertex, by its number, if there is one.
-pub type Row = Vec<Option<Way>>;
+pub type Row = List<Option<Way>>;
 
 /// The way to a vertex.
-pub fn way_to(row: &[Option<Way>], node: NodeNo) -> Option<&Way> {
+pub fn way_to(row: &[Option<Way>], node: NodeNo) -> Option<&Way>
+    ensures some { IfSome result (λ way. IsWayTo row.now node way.now) }
+    ensures none { IfNone result ((way : WayValue) → IsWayTo row.now node way → ⊥) }
+{
     match row.get(node.0 as usize) {
         Some(Some(way)) => Some(way),
         _ => None,
@@ -29,8 +33,8 @@ pub fn way_to(row: &[Option<Way>], node: NodeNo) -> Option<&Way> {
 /// Whether a way that arrives at this second would be the best to a vertex.
 pub fn is_better(row: &[Option<Way>], node: NodeNo, second: u64) -> bool
     ensures better { OnTrue result
-        ((node.0 < length row.now) × (HasWayBy row.now node.0 second → ⊥)) }
-    ensures held { OnFalse result (node.0 < length row.now → HasWayBy row.now node.0 second) }
+        ((node.0 < length row.now) × (HasWayBy row.now node second → ⊥)) }
+    ensures held { OnFalse result (node.0 < length row.now → HasWayBy row.now node second) }
 {
     match row.get(node.0 as usize) {
         Some(Some(way)) => second < way.second,
@@ -39,15 +43,19 @@ pub fn is_better(row: &[Option<Way>], node: NodeNo, second: u64) -> bool
     }
 }
 
-/// The list of vertices with one more at its end.
-pub fn longer(alloc: Global, walk: &Walk, node: NodeNo) -> Result<Walk, NoMemory> {
+/// The walk with one vertex more at its end.
+pub fn longer(alloc: Global, walk: &Walk, node: NodeNo) -> Result<Walk, NoMemory>
+    ensures { IfOk result (λ longer. longer ≡ walk.now ++ node ∷ []) }
+{
     let mut walk = List::from_slice(alloc, walk.as_slice())?;
     walk.push(node)?;
     Ok(walk)
 }
 
 /// A copy of a way.
-fn copy_way(alloc: Global, way: &Way) -> Result<Way, NoMemory> {
+fn copy_way(alloc: Global, way: &Way) -> Result<Way, NoMemory>
+    ensures { IfOk result (λ copy. copy ≡ way.now) }
+{
     let walk = List::from_slice(alloc, way.walk.as_slice())?;
     Ok(Way {
         second: way.second,
@@ -57,8 +65,10 @@ fn copy_way(alloc: Global, way: &Way) -> Result<Way, NoMemory> {
 }
 
 /// A copy of a row.
-pub fn copy_row(alloc: Global, row: &[Option<Way>]) -> Result<Row, NoMemory> {
-    let mut copy = Vec::with_capacity(alloc, row.len())?;
+pub fn copy_row(alloc: Global, row: &[Option<Way>]) -> Result<Vec<Option<Way>>, NoMemory>
+    ensures { IfOk result (λ copy. copy.items ≡ row.now) }
+{
+    let mut copy = Vec::new(alloc);
     for way in row {
         match way {
             Some(way) => copy.push(Some(copy_way(alloc, way)?))?,
@@ -69,8 +79,9 @@ pub fn copy_row(alloc: Global, row: &[Option<Way>]) -> Result<Row, NoMemory> {
 }
 
 /// A row with no way.
-pub fn empty_row(alloc: Global, nodes: u32) -> Result<Row, NoMemory>
-    ensures { IfOk result (λ row. row.items ≡ replicate (nodes + 1) None) }
+pub fn empty_row(alloc: Global, nodes: u32) -> Result<Vec<Option<Way>>, NoMemory>
+    ensures none { IfOk result (λ row. row.items ≡ replicate (nodes + 1) None) }
+    ensures few { IfOk result (λ _. nodes + 1 ≤ 4294967296) }
 {
     let mut row = Vec::new(alloc);
     for _node in 0..nodes as usize + 1 {
