@@ -1,8 +1,9 @@
 -- The findings of the levels that were looked at.
-use Rattle.std.proofs.Common.{◌≡◌, ℕ, ◌+◌, ◌<◌, ◌≤◌, ◌↔◌, List, [], ◌∷◌, ◌++◌, length, get_or, map, refl, sym, ◌∙◌, ap, subst, inl, inr, arith}
+use Rattle.std.proofs.Common.{◌≡◌, ℕ, zero, suc, ◌+◌, ◌<◌, ◌≤◌, ◌↔◌, List, [], ◌∷◌, ◌++◌, length, get_or, map, refl, sym, ◌∙◌, ap, subst, inl, inr, arith, Some}
 use Rattle.std.specs.Prelude.{All, Contains}
 use Rattle.std.specs.List.{AllAdjacentBelow}
 use Rattle.std.proofs.lemmas.Bool.{cases_lt}
+use Rattle.std.proofs.lemmas.Option.{slice_get_within}
 use Rattle.std.proofs.lemmas.List.{map-append, length_push, get_or_append_left, get_or-append-add}
 use Rattle.std.proofs.lemmas.List.Elements.{All-push, Contains-append_cases, Contains-append_left, Contains-push}
 use Rattle.move_model.specs.declared.network.Network.{Network}
@@ -68,6 +69,18 @@ no_gain_held t rows k way at held pair trips_are gain =
     let same : way.second ≡ pair.arrive = ap (λ (w : Way). w.second) (same_way (get_or rows k []) t way gain.way at there) ∙ gain.arrives in
     gain.none_before (subst (λ j. HasWayBy (before_of rows j) t pair.arrive) (sym trips_are) (subst (λ m. HasWayBy (before_of rows k) t m) same held))
 
+-- a way that is no gain
+pub no_gain_below : (n : Network) (s : NodeNo) (d : ℕ) (t : NodeNo) (rows : List Ways) → IsTable n s d rows → (k : ℕ) (way : Way) → k < length rows
+    → IsWayTo (get_or rows k []) t way → 0 < k → (t.0 < length (before_of rows k) → HasWayBy (before_of rows k) t way.second)
+    → (pair : Pair) → pair.trips ≡ k → IsGain rows t pair → ⊥
+no_gain_below n s d t rows table k way within at some held =
+    no_gain_held t rows k way at (held (inside k within at some))
+  where
+    inside : (k : ℕ) → k < length rows → IsWayTo (get_or rows k []) t way → 0 < k → t.0 < length (before_of rows k)
+    inside zero within at some = absurd (omega (arith, some))
+    inside (suc j) within at some =
+        omega (arith, slice_get_within (get_or rows (suc j) []) t.0 (Some way) at, (table.levels j (omega (arith, within))).one_each, (table.levels (suc j) within).one_each)
+
 -- a pair of more rides
 rising_push : (pairs : List Pair) (pair : Pair) → AllAdjacentBelow (λ p q. p.trips < q.trips) pairs (length pairs) → All (λ p. p.trips < pair.trips) pairs
     → AllAdjacentBelow (λ p q. p.trips < q.trips) (pairs ++ pair ∷ []) (length (pairs ++ pair ∷ []))
@@ -131,6 +144,19 @@ module _ (n : Network) (ok : IsNetwork n) (s : NodeNo) (d : ℕ) (t : NodeNo) (r
             (rising_push (pairs_of found) pair below.rising (λ i d inside. ((below.gains (get_or (pairs_of found) i d)).0 (i, inside, same_default (pairs_of found) i (get_or (pairs_of found) i d) d inside)).0));
         real = All-push (IsFound n s d t) found finding below.real is_found;
       }
+
+-- the same over what the calls gave
+pub found_lent : (n : Network) → IsNetwork n → (s : NodeNo) (d : ℕ) (t : NodeNo) (rows : List Ways) → IsTable n s d rows
+    → (k : ℕ) (found more : List Finding) (way : Way) (finding : Finding) → k < length rows → IsWayTo (get_or rows k []) t way
+    → (HasWayBy (before_of rows k) t way.second → ⊥) → IsLed n s d t k way.second finding.journey
+    → finding.pair ≡ record { arrive = way.second; trips = k } → more ≡ found ++ finding ∷ []
+    → FoundBelow n s d t rows k found → FoundBelow n s d t rows (k + 1) more
+found_lent n ok s d t rows table k found more way finding within at none led pair_is more_is below =
+    let same : record { pair = record { arrive = way.second; trips = k }; journey = finding.journey } ≡ finding =
+    λ i. record { pair = sym pair_is i; journey = finding.journey } in
+    subst (λ fs. FoundBelow n s d t rows (k + 1) fs) (sym more_is)
+    (subst (λ f. FoundBelow n s d t rows (k + 1) (found ++ f ∷ [])) same
+    (found_more n ok s d t rows table k found way finding.journey within at none led below))
 
 -- all levels
 pub found_all : (n : Network) → IsNetwork n → (s : NodeNo) (d : ℕ) (t : NodeNo) (rows : List Ways) → IsTable n s d rows → (limit k : ℕ) (found : List Finding)

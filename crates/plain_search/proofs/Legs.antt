@@ -1,5 +1,5 @@
 -- A journey put together from its end, level by level.
-use Rattle.std.proofs.Common.{◌≡◌, ℕ, zero, suc, ◌+◌, ◌<◌, ◌≤◌, List, [], ◌∷◌, length, get_or, refl, sym, subst, arith, Option, Some, None}
+use Rattle.std.proofs.Common.{◌≡◌, ℕ, zero, suc, ◌+◌, ◌-◌, ◌<◌, ◌≤◌, List, [], ◌∷◌, length, get_or, refl, sym, ◌∙◌, subst, arith, Option, Some, None}
 use Rattle.std.specs.Prelude.{All}
 use Rattle.std.proofs.lemmas.Option.{same_Some}
 use Rattle.std.proofs.lemmas.List.Elements.{All-cons}
@@ -16,6 +16,7 @@ use Rattle.plain_search.specs.Ridden.{IsCaught}
 use Rattle.plain_search.specs.Levels.{Starts, before_of, IsTable}
 use Rattle.plain_search.specs.Levels.Starts.{at_source, off_ride}
 use Rattle.plain_search.specs.Answer.{IsLed}
+use Rattle.plain_search.proofs.Rows.{same_default}
 use Rattle.plain_search.proofs.LevelLaws.{none_before}
 use Rattle.plain_search.proofs.JourneyLaws.{exact, same_way, LeadsOn, leads_to, from_ride}
 
@@ -154,3 +155,52 @@ module _ (n : Network) (ok : IsNetwork n) (s : NodeNo) (d : ℕ) (rows : List Wa
   not_pending j node walks rides pending none =
       let same_level : pending.level ≡ j = omega (arith, pending.above_is) in
       none pending.way (subst (λ i. IsWayTo (get_or rows i []) node pending.way) same_level pending.at)
+
+  -- the same over what the calls were lent
+
+  pub pending_start : (k : ℕ) (walks : List (List NodeNo)) (rides : List Ride) → k < length rows → (way : Way) → IsWayTo (get_or rows k []) t way
+      → way.second ≡ arrive → walks ≡ [] → rides ≡ [] → Pending n rows t arrive (k + 1) t walks rides
+  pending_start k walks rides within way at e walks_are rides_are =
+      subst (λ ws. Pending n rows t arrive (k + 1) t ws rides) (sym walks_are)
+      (subst (λ rs. Pending n rows t arrive (k + 1) t [] rs) (sym rides_are) (pending_first k within way at e))
+
+  pub pending_more : (level : ℕ) (node next : NodeNo) (walks all : List (List NodeNo)) (rides more : List Ride) (way : Way) (ride : Ride) → 0 < level
+      → Pending n rows t arrive level node walks rides
+      → IsWayTo (get_or rows (level - 1) []) node way → way.ride ≡ Some ride → all ≡ way.walk ∷ walks → more ≡ ride ∷ rides
+      → ((call : Call) → HasCall n ride.trip ride.board call → next ≡ node_of n call.stop)
+      → Pending n rows t arrive (level - 1) next all more
+  pending_more level node next walks all rides more way ride some pending =
+      let e : level ≡ (level - 1) + 1 = omega (arith, some) in
+      pending_ride (level - 1) node next walks all rides more way ride (subst (λ j. Pending n rows t arrive j node walks rides) e pending)
+
+  pub led_lent : (level : ℕ) (node : NodeNo) (walks all : List (List NodeNo)) (rides : List Ride) (way : Way) (k : ℕ) → 0 < level
+      → Pending n rows t arrive level node walks rides
+      → IsWayTo (get_or rows (level - 1) []) node way → way.ride ≡ None → all ≡ way.walk ∷ walks → length rides ≤ k
+      → IsLed n s d t k arrive (record { depart = d; walks = all; rides = rides })
+  led_lent level node walks all rides way k some pending =
+      let e : level ≡ (level - 1) + 1 = omega (arith, some) in
+      led_now (level - 1) node walks all rides way k (subst (λ j. Pending n rows t arrive j node walks rides) e pending)
+
+  pub none_pending : (level : ℕ) (node : NodeNo) (walks : List (List NodeNo)) (rides : List Ride) → 0 < level → Pending n rows t arrive level node walks rides
+      → ((way : Way) → IsWayTo (get_or rows (level - 1) []) node way → ⊥) → ⊥
+  none_pending level node walks rides some pending =
+      let e : level ≡ (level - 1) + 1 = omega (arith, some) in
+      not_pending (level - 1) node walks rides (subst (λ j. Pending n rows t arrive j node walks rides) e pending)
+
+-- a row of the list, as it was lent
+
+pub way_lent : (rows : List Ways) (j : ℕ) (row lent : Ways) (node : NodeNo) (way : Way) → j < length rows → row ≡ get_or rows j row → lent ≡ row
+    → IsWayTo lent node way → IsWayTo (get_or rows j []) node way
+way_lent rows j row lent node way within row_is lent_is at = subst (λ r. IsWayTo r node way) (lent_is ∙ row_is ∙ same_default rows j row [] within) at
+
+pub none_lent : (rows : List Ways) (j : ℕ) (row lent : Ways) (node : NodeNo) → j < length rows → row ≡ get_or rows j row → lent ≡ row
+    → ((way : Way) → IsWayTo lent node way → ⊥) → (way : Way) → IsWayTo (get_or rows j []) node way → ⊥
+none_lent rows j row lent node within row_is lent_is none way at = none way (subst (λ r. IsWayTo r node way) (sym (lent_is ∙ row_is ∙ same_default rows j row [] within)) at)
+
+pub no_ride : (ride : Option Ride) → ((x : Ride) → ride ≡ Some x → ⊥) → ride ≡ None
+no_ride None none = refl
+no_ride (Some x) none = absurd (none x refl)
+
+pub pending_end : {n : Network} {rows : List Ways} {t : NodeNo} {arrive level : ℕ} {node : NodeNo} {walks : List (List NodeNo)} {rides : List Ride}
+    → Pending n rows t arrive level node walks rides → level ≤ 0 → ⊥
+pending_end pending none = omega (arith, pending.above_is, none)

@@ -1,10 +1,14 @@
 // The pairs of a point query, each with a journey.
-ghost use Rattle.std.specs.Prelude.{◌≡◌, ◌<◌, ◌≤◌, length, MatchBool};
+ghost use Rattle.std.specs.Prelude.{◌≡◌, ◌<◌, ◌≤◌, [], length, slice_index_or, MatchBool, IfOk};
+ghost use Rattle.move_model.specs.declared.network.NodeNo.{NodeNo as NodeNoValue};
 ghost use Rattle.move_model.specs.declared.network.Call.{Call as CallValue};
-ghost use Rattle.move_model.specs.Network.{node_of as node_of_lem};
+ghost use Rattle.move_model.specs.Network.{IsNetwork, IsNumbered, node_of as node_of_lem};
 ghost use Rattle.move_model.specs.Journey.{HasCall};
-ghost use Rattle.plain_search.specs.Row.{HasWayBy};
-ghost use Rattle.plain_search.specs.Levels.{before_of};
+ghost use Rattle.move_model.specs.Found.{IsPointAnswer};
+ghost use Rattle.plain_search.specs.declared.way.Way.{Way as WayValue};
+ghost use Rattle.plain_search.specs.Row.{IsWayTo, HasWayBy};
+ghost use Rattle.plain_search.specs.Levels.{before_of, IsTable};
+ghost use Rattle.plain_search.specs.Answer.{IsLed};
 
 use crate::rides::node_of;
 use crate::rounds::rows_from;
@@ -36,6 +40,9 @@ fn journey_to(
     to: NodeNo,
 ) -> Result<Journey, NoMemory>
     requires { k < length rows.now }
+    ensures { IfOk result (λ journey. IsNetwork network.now
+        → (from : NodeNoValue) (way : WayValue) → IsTable network.now from depart rows.now
+        → IsWayTo (slice_index_or rows.now k []) to way → IsLed network.now from depart to k way.second journey) }
 {
     let mut walks = Vec::new(alloc);
     let mut rides = Vec::new(alloc);
@@ -78,21 +85,26 @@ pub fn point_findings(
     to: NodeNo,
     depart: u32,
     limit: u8,
-) -> Result<Findings, NoMemory> {
+) -> Result<Findings, NoMemory>
+    ensures { IfOk result (λ found. IsNetwork network.now → IsNumbered network.now
+        → IsPointAnswer network.now from depart to limit found) }
+{
     let rows = rows_from(alloc, network, from, depart, limit)?;
     let rows = rows.as_slice();
     let mut found = List::new(alloc);
     for k in 0..rows.len() {
-        if let Some(way) = way_to(rows[k].as_slice(), to)
-            && is_gain(rows, k, to, way.second)
-        {
-            let journey = journey_to(alloc, network, rows, k, depart, to)?;
-            let pair = Pair {
-                arrive: way.second,
-                trips: k as u8,
-            };
-            found.push(Finding { pair, journey })?;
+        let Some(way) = way_to(rows[k].as_slice(), to) else {
+            continue;
+        };
+        if !is_gain(rows, k, to, way.second) {
+            continue;
         }
+        let journey = journey_to(alloc, network, rows, k, depart, to)?;
+        let pair = Pair {
+            arrive: way.second,
+            trips: k as u8,
+        };
+        found.push(Finding { pair, journey })?;
     }
     Ok(found)
 }
