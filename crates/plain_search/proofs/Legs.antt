@@ -1,5 +1,5 @@
 -- A journey put together from its end, level by level.
-use Rattle.std.proofs.Common.{◌≡◌, ℕ, zero, suc, ◌+◌, ◌-◌, ◌<◌, ◌≤◌, List, [], ◌∷◌, length, get_or, refl, sym, ◌∙◌, subst, arith, Option, Some, None}
+use Rattle.std.proofs.Common.{◌≡◌, ℕ, zero, suc, ◌+◌, ◌-◌, ◌<◌, ◌≤◌, List, [], ◌∷◌, length, get_or, refl, sym, ◌∙◌, ap, subst, arith, Option, Some, None}
 use Rattle.std.specs.Prelude.{All}
 use Rattle.std.proofs.lemmas.Option.{same_Some}
 use Rattle.std.proofs.lemmas.List.Elements.{All-cons}
@@ -204,3 +204,7 @@ no_ride (Some x) none = absurd (none x refl)
 pub pending_end : {n : Network} {rows : List Ways} {t : NodeNo} {arrive level : ℕ} {node : NodeNo} {walks : List (List NodeNo)} {rides : List Ride}
     → Pending n rows t arrive level node walks rides → level ≤ 0 → ⊥
 pending_end pending none = omega (arith, pending.above_is, none)
+
+-- the walk that was put first, by way of its copy
+pub walk_put : (new old : List (List NodeNo)) (copy lent walk : List NodeNo) → new ≡ copy ∷ old → copy ≡ lent → lent ≡ walk → new ≡ walk ∷ old
+walk_put new old copy lent walk new_is copy_is lent_is = new_is ∙ ap (λ w. w ∷ old) (copy_is ∙ lent_is)

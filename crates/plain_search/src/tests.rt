@@ -82,6 +82,20 @@ fn network_of(
 // From A at 8:00 to B at 8:10, and from C at 8:15 to D at 8:30.
 const TWO: [[CallRow; 2]; 2] = [[(0, 28800), (1, 29400)], [(2, 29700), (3, 30600)]];
 
+// The same, and a later trip from A to B that is there earlier.
+const EARLY: [[CallRow; 2]; 3] = [
+    [(0, 28800), (1, 29400)],
+    [(0, 28860), (1, 29340)],
+    [(2, 29700), (3, 30600)],
+];
+
+// The same as at first, and a trip from A to D without a change.
+const DIRECT: [[CallRow; 2]; 3] = [
+    [(0, 28800), (1, 29400)],
+    [(0, 29100), (3, 30600)],
+    [(2, 29700), (3, 30600)],
+];
+
 /// The arrival, the number of trips and the numbers of vertices of the walks, of each pair that a query gives.
 fn pairs(
     alloc: Global,
@@ -117,6 +131,8 @@ fn finds_the_pairs_of_the_sample(rt: HostRuntime) -> Result<(), Fail> {
     assert!(rt; missed.is_empty());
     let caught = pairs(alloc, &base, 2, 1, 29460, 2)?;
     assert!(rt; caught.as_slice() == [(37800, 1, 2)].as_slice());
+    let late = pairs(alloc, &base, 1, 4, 28801, 2)?;
+    assert!(rt; late.as_slice() == [(36001, 0, 1)].as_slice());
     Ok(())
 }
 
@@ -132,6 +148,12 @@ fn finds_the_pairs_of_changed_samples(rt: HostRuntime) -> Result<(), Fail> {
     let joined = network_of(alloc, 240, 7200, &[1, 2, 2, 4], &TWO)?;
     let stayed = pairs(alloc, &joined, 1, 4, 28500, 2)?;
     assert!(rt; stayed.as_slice() == [(35700, 0, 1), (30600, 2, 3)].as_slice());
+    let early = network_of(alloc, 360, 7200, &[1, 2, 3, 4], &EARLY)?;
+    let passed = pairs(alloc, &early, 1, 4, 28500, 2)?;
+    assert!(rt; passed.as_slice() == [(35700, 0, 1), (30600, 2, 3)].as_slice());
+    let direct = network_of(alloc, 240, 7200, &[1, 2, 3, 4], &DIRECT)?;
+    let one_ride = pairs(alloc, &direct, 1, 4, 28500, 2)?;
+    assert!(rt; one_ride.as_slice() == [(35700, 0, 1), (30600, 1, 2)].as_slice());
     Ok(())
 }
 

@@ -1,8 +1,7 @@
-use Rattle.std.proofs.Common.{◌≡◌, ◌+◌, ◌-◌, ◌<◌, List, [], ◌∷◌, length, Option, Some, None, sym, ◌∙◌, ap, subst, refl, arith}
-use Rattle.move_model.specs.declared.network.NodeNo.{NodeNo}
+use Rattle.std.proofs.Common.{◌≡◌, ◌-◌, ◌<◌, List, ◌∷◌, length, sym, ◌∙◌, ap, subst, refl, arith}
 use Rattle.move_model.specs.declared.journey.Ride.{Ride}
 use Rattle.plain_search.specs.Answer.{IsLed}
-use Rattle.plain_search.proofs.Legs.{pending_start, pending_more, pending_end, none_pending, way_lent, none_lent, no_ride, led_lent}
+use Rattle.plain_search.proofs.Legs.{pending_start, pending_more, pending_end, none_pending, way_lent, none_lent, no_ride, walk_put, led_lent}
 use Rattle.plain_search.proofs.answer.journey_to.Goals as goal
 use Rattle.plain_search.proofs.answer.journey_to.Goals.{else-loop-level-test, then-loop-level-test+in_default, then-loop-level-test+in-Some+in_ok-from_slice+in_ok-insert+in_default-ride}
 
@@ -26,7 +25,7 @@ loop-level-preserved c =
           c.loop-level-test.true (c.loop-level.invariant.pending from way ok table at)
           (way_lent c.args.rows.now (c.loop-level.level - 1) _ _ c.loop-level.node c.in-Some.way.now within c.index-rows-level.is c.as_slice.ensures c.in-Some.ensures.some)
           c.in-Some-ride.is
-          (c.in_ok-insert.ensures.items ∙ ap (λ (w : List NodeNo). w ∷ c.loop-level.walks.items) (c.in_ok-from_slice.ensures ∙ c.as_slice-in-loop-level.ensures))
+          (walk_put _ _ _ _ _ c.in_ok-insert.ensures.items c.in_ok-from_slice.ensures c.as_slice-in-loop-level.ensures)
           c.in_ok-insert-2.ensures.items c.boarded_at-node.ensures;
     }
 
@@ -43,8 +42,7 @@ returns c = λ ok from way table at.
       | then-loop-level-test+in-Some+in_ok-from_slice+in_ok-insert+in_default-ride w ↦
           let within : c.loop-level.level - 1 < length c.args.rows.now = omega (arith, c.loop-level.invariant.few, w.loop-level-test.true, c.requires) in
           let walks_are : c.from_vec.result ≡ w.in-Some.way.now.walk ∷ c.loop-level.walks.items =
-          c.from_vec.ensures ∙ ap (λ v. v.items) w.walks-is ∙ w.in_ok-insert.ensures.items
-          ∙ ap (λ (ws : List NodeNo). ws ∷ c.loop-level.walks.items) (w.in_ok-from_slice.ensures ∙ w.as_slice-in-loop-level.ensures) in
+          c.from_vec.ensures ∙ ap (λ v. v.items) w.walks-is ∙ walk_put _ _ _ _ _ w.in_ok-insert.ensures.items w.in_ok-from_slice.ensures w.as_slice-in-loop-level.ensures in
           subst (λ rs. IsLed c.args.network.now from c.args.depart c.args.to c.args.k way.second (record { depart = c.args.depart; walks = c.from_vec.result; rides = rs }))
           (sym c.from_vec-2.ensures)
           (led_lent c.args.network.now ok from c.args.depart c.args.rows.now table c.args.to way.second c.loop-level.level c.loop-level.node

@@ -1,4 +1,4 @@
-use Rattle.std.proofs.Common.{ℕ, ◌+◌, ◌≤◌, [], length, get_or}
+use Rattle.std.proofs.Common.{◌+◌, ◌≤◌, [], length, get_or}
 use Rattle.move_model.specs.declared.network.NodeNo.{NodeNo}
 use Rattle.move_model.specs.Network.{IsNetwork}
 use Rattle.plain_search.specs.declared.way.Way.{Way}

@@ -1,4 +1,4 @@
-use Rattle.std.proofs.Common.{◌≡◌, ◌+◌, List, length, subst, sym, ◌∙◌, ap, refl, arith}
+use Rattle.std.proofs.Common.{List, length, subst, sym, ◌∙◌, ap, refl}
 use Rattle.plain_search.specs.Row.{Ways}
 use Rattle.plain_search.specs.Levels.{IsTable}
 use Rattle.plain_search.proofs.Legs.{way_lent, none_lent}

@@ -1,4 +1,3 @@
-use Rattle.std.proofs.Common.{◌≡◌, ◌+◌, length}
 use Rattle.move_model.specs.Network.{IsNetwork, IsNumbered}
 use Rattle.plain_search.proofs.Found.{FoundBelow}
 use Rattle.plain_search.proofs.answer.point_findings.Given as goal

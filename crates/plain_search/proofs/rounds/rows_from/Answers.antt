@@ -7,11 +7,14 @@ use Rattle.plain_search.specs.Levels.{IsTable}
 use Rattle.plain_search.proofs.LevelLaws.{table_first, table_more}
 use Rattle.plain_search.proofs.rounds.rows_from.Goals as goal
 
+-- the list of one row
+one_row : (new old : List Ways) (row : Ways) → new ≡ old ++ row ∷ [] → old ≡ [] → new ≡ row ∷ []
+one_row new old row new_is old_is = new_is ∙ ap (λ rows. rows ++ row ∷ []) old_is
+
 pub loop-k-init : goal.loop-k-init
 loop-k-init c =
     let none : List Ways = [] in
-    let items : c.push.new.self.items ≡ none ++ c.in_ok-first_row.field-0 ∷ [] =
-    c.in_ok-push.ensures.items ∙ ap (λ (xs : List Ways). xs ++ c.in_ok-first_row.field-0 ∷ []) c.new-rows.ensures.items in
+    let items : c.push.new.self.items ≡ c.in_ok-first_row.field-0 ∷ [] = one_row _ _ _ c.in_ok-push.ensures.items c.new-rows.ensures.items in
     record {
       many = ap (λ (xs : List Ways). length xs) items;
       whole = subst (λ (xs : List Ways). All IsWhole xs) (sym items) (All-push IsWhole none c.in_ok-first_row.field-0 (λ k d within. absurd (omega (arith, within))) c.in_ok-first_row.ensures.whole);
