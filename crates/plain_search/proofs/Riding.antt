@@ -207,14 +207,15 @@ module _ (n : Network) (before : Ways) (trip : TripNo) (start : Ways) (place : �
       subst (λ b. Rode b row) (sym same_board) (subst (λ r. Rode boarded' r) (sym same_row) rode)
 
   module _ (held boarded : Option ℕ) (row next : Ways) (riding : Riding n before trip start place held row) where
-    pub rode_left : (board at : ℕ) (node : NodeNo) (after : Ways) → held ≡ Some board → call.alight ≡ true → IsWhole after
-        → Leaves row after node call.arr (record { trip = trip; board = board; alight = at }) → node ≡ node_of n call.stop → at ≡ place
+    pub rode_left : (board at : ℕ) (node : NodeNo) (second : ℕ) (after : Ways) → held ≡ Some board → call.alight ≡ true → IsWhole after
+        → Leaves row after node second (record { trip = trip; board = board; alight = at }) → node ≡ node_of n call.stop → second ≡ call.arr → at ≡ place
         → boarded ≡ Some board → next ≡ after → Rode boarded next
-    rode_left board at node after held_is may_alight whole leaves node_is at_is boarded_is next_is =
+    rode_left board at node second after held_is may_alight whole leaves node_is second_is at_is boarded_is next_is =
         rode_same boarded (Some board) next after boarded_is next_is
         (riding_left board row after (subst (λ b. Riding n before trip start place b row) held_is riding) may_alight whole
         (subst (λ k. Leaves row after (node_of n call.stop) call.arr (record { trip = trip; board = board; alight = k })) at_is
-        (subst (λ v. Leaves row after v call.arr (record { trip = trip; board = board; alight = at })) node_is leaves)))
+        (subst (λ v. Leaves row after v call.arr (record { trip = trip; board = board; alight = at })) node_is
+        (subst (λ m. Leaves row after node m (record { trip = trip; board = board; alight = at })) second_is leaves))))
 
     pub rode_passed : (board : ℕ) → held ≡ Some board → call.alight ≡ false → boarded ≡ Some board → next ≡ row → Rode boarded next
     rode_passed board held_is never boarded_is next_is =

@@ -5,6 +5,6 @@ use Rattle.plain_search.proofs.rides.catches.Goals as goal
 
 pub returns-in-Some : goal.returns-in-Some
 returns-in-Some c =
-    catches_is c.args.network.now c.args.before.now c.args.call c.in-Some.way.now c.saturating_add.result c.from-in-Some.result
+    catches_is c.args.network.now c.args.before.now c.args.call c.in-Some.way.now _ _
     (subst (λ v. IsWayTo c.args.before.now v c.in-Some.way.now) c.node_of.ensures c.in-Some.ensures.some)
     (omega (arith, c.saturating_add.ensures, c.from.ensures)) c.from-in-Some.ensures (omega (arith, c.from-in-Some.ensures))

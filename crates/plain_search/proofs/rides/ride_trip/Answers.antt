@@ -23,12 +23,12 @@ loop-index-preserved c =
           let here = w.in_ok-leave-in-Some-boarded.ensures in
           rode_left c.args.network.now c.args.before.now c.args.trip c.args.row.now c.loop-index.index _ has
           c.loop-index.boarded c.match-boarded.boarded c.loop-index.row c.match-boarded.row c.loop-index.invariant
-          w.in-Some-boarded.board c.in-Ok.place w.node_of.result w.leave.new.row
-          w.in-Some-boarded.is w.if-call.true here.whole here.leaves w.node_of.ensures place_is w.boarded-is w.row-is
+          w.in-Some-boarded.board c.in-Ok.place w.node_of.result _ w.leave.new.row
+          w.in-Some-boarded.is (cc w.if-call.true) here.whole here.leaves w.node_of.ensures (omega arith) place_is w.boarded-is w.row-is
       | in-Some-boarded+else-call w ↦
           rode_passed c.args.network.now c.args.before.now c.args.trip c.args.row.now c.loop-index.index _ has
           c.loop-index.boarded c.match-boarded.boarded c.loop-index.row c.match-boarded.row c.loop-index.invariant
-          w.in-Some-boarded.board w.in-Some-boarded.is w.if-call.false w.boarded-is w.row-is
+          w.in-Some-boarded.board w.in-Some-boarded.is (cc w.if-call.false) w.boarded-is w.row-is
       | in-None+then-call-2+then-catches w ↦
           rode_boarded c.args.network.now c.args.before.now c.args.trip c.args.row.now c.loop-index.index _ has
           c.loop-index.boarded c.match-boarded.boarded c.loop-index.row c.match-boarded.row c.loop-index.invariant
