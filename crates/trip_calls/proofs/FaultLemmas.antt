@@ -1,13 +1,12 @@
 -- One call more of a trip, and the rules.
-use Rattle.std.proofs.Common.{◌≡◌, ◌∙◌, ℕ, ◌+◌, ◌-◌, ◌<◌, ◌≤◌, List, [], ◌∷◌, ◌++◌, take, length, get_or, Option, Some, None, Bool, true, false, refl, sym, ap, inl, inr, arith, below_more}
-use Rattle.std.specs.Prelude.{slice_get, nat_lt, option_map, option_and_then, if◌then◌else◌}
+use Rattle.std.proofs.Common.{◌≡◌, ℕ, ◌+◌, ◌-◌, ◌<◌, ◌≤◌, List, [], ◌∷◌, ◌++◌, take, length, Option, Some, None, Bool, true, false, refl, ap, inl, inr, arith, below_more}
+use Rattle.std.specs.Prelude.{slice_get, nat_lt, if◌then◌else◌}
 use Rattle.std.proofs.lemmas.Bool.{cases_eq}
 use Rattle.std.proofs.lemmas.Bool.Decides.{nat_tests}
 use Rattle.std.proofs.lemmas.List.{take_more}
 use Rattle.std.proofs.lemmas.Option.{get_or_from_slice_get}
 use Rattle.move_model.specs.declared.refusal.Cause.{Cause}
 use Rattle.trip_calls.specs.declared.kept.KeptCall.{KeptCall}
-use Rattle.trip_calls.specs.declared.kept.Times.{Times}
 use Rattle.trip_calls.specs.declared.fault.Fault.{Fault}
 use Rattle.trip_calls.specs.CallRules.{previous_sequence, last_departure, departure_behind, departure_after, call_cause, cause_of_call, IsFirstFault, with_cause}
 

@@ -1,15 +1,15 @@
 -- One call more of a trip whose times are filled in.
-use Rattle.std.proofs.Common.{◌≡◌, ◌∙◌, ℕ, ◌+◌, ◌-◌, ◌<◌, ◌≤◌, List, [], ◌∷◌, ◌++◌, take, drop, length, map, All, get_or, Option, Some, None, Bool, false, refl, sym, ap, inl, inr, arith}
+use Rattle.std.proofs.Common.{◌≡◌, ◌∙◌, ℕ, ◌+◌, ◌-◌, ◌<◌, ◌≤◌, List, [], ◌∷◌, ◌++◌, take, drop, length, map, get_or, Option, Some, None, refl, sym, ap, inl, inr, arith}
 use Rattle.std.specs.Prelude.{slice_get, IfSome}
 use Rattle.std.proofs.lemmas.Bool.{cases_lt, cases_eq}
-use Rattle.std.proofs.lemmas.List.{length-append, length-take-le, length-drop, length-map, append_assoc, map-append, take_more, take_all, drop-take, take-append-drop, take-take}
-use Rattle.std.proofs.lemmas.Option.{get_or_from_slice_get, slice_get_within, slice_get-get_or}
+use Rattle.std.proofs.lemmas.List.{length-append, length-take-le, length-drop, map-append, take_more, take_all, drop-take, take-append-drop, take-take}
+use Rattle.std.proofs.lemmas.Option.{get_or_from_slice_get, slice_get-get_or}
 use Rattle.move_model.specs.declared.network.Call.{Call}
 use Rattle.move_model.specs.declared.network.StopNo.{StopNo}
 use Rattle.trip_calls.specs.declared.kept.KeptCall.{KeptCall}
 use Rattle.trip_calls.specs.declared.kept.Times.{Times}
-use Rattle.trip_calls.specs.CallRules.{call_cause, last_departure, departure_after, departure_behind, HoldTogether}
-use Rattle.trip_calls.specs.Filled.{with_times, passed, gap, second_between, IsTimely, IsInTime}
+use Rattle.trip_calls.specs.CallRules.{call_cause, last_departure, HoldTogether}
+use Rattle.trip_calls.specs.Filled.{with_times, gap, IsTimely, IsInTime}
 use Rattle.trip_calls.proofs.FaultLemmas.{departure-more}
 use Rattle.trip_calls.proofs.HoldLemmas.{own-rises, not-end}
 use Rattle.trip_calls.proofs.PassedLemmas.{no_call, stops-passed, length-passed}

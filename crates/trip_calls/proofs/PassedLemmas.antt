@@ -1,5 +1,5 @@
 -- Calls that seconds pass evenly, one more at the end.
-use Rattle.std.proofs.Common.{◌≡◌, ◌∙◌, ℕ, suc, ◌+◌, ◌-◌, ◌<◌, ◌≤◌, List, [], ◌∷◌, ◌++◌, take, drop, length, get_or, map, Option, None, Bool, false, refl, sym, ap, arith}
+use Rattle.std.proofs.Common.{◌≡◌, ◌∙◌, ℕ, suc, ◌+◌, ◌-◌, ◌<◌, ◌≤◌, List, [], ◌∷◌, ◌++◌, take, drop, length, get_or, map, None, false, refl, sym, ap, arith}
 use Rattle.std.proofs.lemmas.List.{take_more, get_or-drop, length-take-le, length-drop}
 use Rattle.move_model.specs.declared.network.Call.{Call}
 use Rattle.move_model.specs.declared.network.StopNo.{StopNo}

@@ -4,7 +4,7 @@
 --     call_cause calls i             the cause of the first rule that the i-th call breaks
 --     HoldTogether calls             no call breaks a rule
 --     IsFirstFault calls n fault     of the first n calls that break a rule, the fault names the least row with its first cause
-use Rattle.std.specs.Prelude.{◌≡◌, ℕ, ◌+◌, ◌-◌, ◌<◌, ◌==◌, ◌&&◌, ◌||◌, Bool, true, false, List, [], ◌∷◌, length, take, slice_get, Option, Some, None, option_map, option_and_then, nat_lt, if◌then◌else◌}
+use Rattle.std.specs.Prelude.{◌≡◌, ℕ, ◌+◌, ◌-◌, ◌<◌, ◌==◌, ◌||◌, Bool, List, [], ◌∷◌, length, take, slice_get, Option, Some, None, option_map, option_and_then, nat_lt, if◌then◌else◌}
 use Rattle.move_model.specs.declared.refusal.Cause.{Cause}
 use Rattle.move_model.specs.declared.refusal.Cause.TheVariants as cause
 use Rattle.refusals.specs.Refusal.{or_then}

@@ -1,2 +1,3 @@
 pub mod CallRules
 pub mod Filled
+pub mod Order

@@ -65,6 +65,7 @@ pub fn fill_times(alloc: Global, calls: &[KeptCall]) -> Result<Calls, AllocError
     requires in_time { All spec.IsInTime calls.now }
     requires few { length calls.now < 2 ^ 32 }
 
+    ensures filled { IfOk result (spec.IsFilled calls.now) }
     ensures stops { IfOk result (λ filled. map (λ call. call.stop) filled ≡ map (λ call. call.stop) calls.now) }
     ensures timely { IfOk result (λ filled. (second : ℕ) × spec.IsTimely filled second) }
 {

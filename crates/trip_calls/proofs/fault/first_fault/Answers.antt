@@ -1,5 +1,4 @@
-use Rattle.std.proofs.Common.{◌≡◌, ◌∙◌, ◌<◌, sym, refl, Some, None, arith, get_or, true, false}
-use Rattle.std.specs.Prelude.{slice_get}
+use Rattle.std.proofs.Common.{◌≡◌, ◌∙◌, sym, refl, None, arith, get_or, false}
 use Rattle.std.proofs.lemmas.Option.{slice_get-get_or}
 use Rattle.trip_calls.specs.CallRules as spec
 use Rattle.trip_calls.proofs.FaultLemmas.{previous-more, departure-more, cause-here, fault-more}

@@ -1,4 +1,4 @@
-use Rattle.std.proofs.Common.{◌≡◌, ◌++◌, ◌+◌, ◌-◌, take, drop, length}
+use Rattle.std.proofs.Common.{◌≡◌, ◌++◌, ◌+◌, ◌-◌, take, drop}
 use Rattle.trip_calls.specs.Filled.{passed}
 use Rattle.trip_calls.proofs.fill.fill_gap.Given as goal
 
