@@ -1,9 +1,8 @@
 -- What the lines so far gave, one line on, and what follows behind the last line.
-use Rattle.std.proofs.Common.{◌≡◌, ◌≢◌, ◌∙◌, ◌+◌, ◌<◌, ◌≤◌, ℕ, true, List, [], ◌∷◌, ◌++◌, length, take, drop, get_or, map, Option, Some, None, Err, refl, sym, ap, below_more, arith}
-use Rattle.std.specs.Prelude.{◌==◌, slice_get, is_some, if◌then◌else◌}
+use Rattle.std.proofs.Common.{◌≡◌, ◌≢◌, ◌∙◌, ◌+◌, ◌<◌, ℕ, true, List, [], ◌∷◌, ◌++◌, length, take, get_or, map, Option, Some, None, Err, refl, sym, ap, below_more, arith}
+use Rattle.std.specs.Prelude.{◌==◌, is_some, if◌then◌else◌}
 use Rattle.std.specs.Str.Lines.{lines}
-use Rattle.std.proofs.lemmas.List.{drop_more, take_more, length-drop, flat_map_more, nil_from_length, length_push, get_or_push, get_or_append_left}
-use Rattle.std.proofs.lemmas.Option.{slice_get-get_or, slice_get_within, get_or_from_slice_get}
+use Rattle.std.proofs.lemmas.List.{flat_map_more, nil_from_length}
 use Rattle.std.proofs.lemmas.Bool.Decides.{nat_tests}
 use Rattle.move_model.specs.declared.refusal.Cause.{Cause}
 use Rattle.move_model.specs.declared.refusal.Cause.TheVariants.{Line, Count}
@@ -15,10 +14,12 @@ use Rattle.street_graph.specs.declared.gr.GrLine.TheVariants.{Skipped, Problem, 
 use Rattle.street_graph.specs.declared.gr.Size.{Size}
 use Rattle.street_graph.specs.declared.gr.Draft.{Draft}
 use Rattle.street_graph.specs.Text.{fields}
-use Rattle.street_graph.specs.Refusal.{Accepted, IsFirstRefusal, IfRefused, first_cause}
+use Rattle.refusals.specs.Refusal.{Accepted, IsFirstRefusal, first_cause}
+use Rattle.street_graph.specs.Refused.{IfRefused}
 use Rattle.street_graph.specs.Gr.{gr_lines, gr_line_of, gr_rules, form_broken, spot_at, size_in, size_of, first_some, arcs_in, arcs_of, IsSizeRow, LinesHold, IsGrRefused, by_line, no_size, miscounted}
-use Rattle.street_graph.specs.Draft.{HasRead}
-use Rattle.street_graph.proofs.RefusalLemmas.{each_holds, first_broken}
+use Rattle.street_graph.specs.GrDraft.{HasRead}
+use Rattle.street_graph.proofs.LineLemmas.{slice_get-push, slice_get_last}
+use Rattle.refusals.proofs.RefusalLemmas.{each_holds, first_broken}
 
 first_some-assoc : {X : Type 0} (x y z : Option X) → first_some (first_some x y) z ≡ first_some x (first_some y z)
 first_some-assoc None y z = refl
@@ -37,17 +38,6 @@ size_of-push ls x = size_of-append ls (x ∷ []) ∙ ap (first_some (size_of ls)
 
 pub arcs_of-push : (ls : List GrLine) (x : GrLine) → arcs_of (ls ++ x ∷ []) ≡ arcs_of ls ++ arcs_in x
 arcs_of-push ls x = sym (flat_map_more arcs_in [] ls x)
-
-slice_get-push : (ls : List GrLine) (x y : GrLine) (i : ℕ) → slice_get ls i ≡ Some y → slice_get (ls ++ x ∷ []) i ≡ Some y
-slice_get-push ls x y i e =
-    let lt : i < length ls = slice_get_within ls i y e in
-    let more : i < length (ls ++ x ∷ []) = omega (arith, length_push ls x) in
-    slice_get-get_or (ls ++ x ∷ []) i x more ∙ ap (λ z. Some z) (get_or_append_left ls (x ∷ []) x i lt ∙ get_or_from_slice_get ls i y x e)
-
-slice_get_last : (ls : List GrLine) (x : GrLine) → slice_get (ls ++ x ∷ []) (length ls) ≡ Some x
-slice_get_last ls x =
-    let lt : length ls < length (ls ++ x ∷ []) = omega (arith, length_push ls x) in
-    slice_get-get_or (ls ++ x ∷ []) (length ls) x lt ∙ ap (λ z. Some z) (get_or_push ls x x (length ls) refl)
 
 kept : (ls : List GrLine) (x : GrLine) (row : ℕ) (size : Size) → IsSizeRow ls row size → IsSizeRow (ls ++ x ∷ []) row size
 kept ls x row size r = record { place = r.place; number = r.number; announced = slice_get-push ls x (Problem size.nodes size.arcs) r.place r.announced }
@@ -92,15 +82,6 @@ pub gr_lines-nil : gr_lines [] ≡ []
 unfolding gr_lines
 gr_lines-nil = refl
 
--- the line behind the first lines
-pub here : (ls more : List GrLine) (x : GrLine) (i : ℕ) → i ≤ length ls → drop i ls ≡ x ∷ more
-    → (i < length ls) × (get_or ls i Skipped ≡ x) × (drop (i + 1) ls ≡ more) × (take (i + 1) ls ≡ take i ls ++ x ∷ [])
-here ls more x i le e =
-    let lt : i < length ls = omega (arith, length-drop i ls, ap length e) in
-    let split = sym (drop_more ls i Skipped lt) ∙ e in
-    let head : get_or ls i Skipped ≡ x = cc in
-    (lt, head, cc, take_more ls i Skipped lt ∙ ap (λ y. take i ls ++ y ∷ []) head)
-
 -- the spot at that line
 pub spot_here : (ls : List GrLine) (x : GrLine) (i : ℕ) (given : Option Size) → get_or ls i Skipped ≡ x → given ≡ size_of (take i ls)
     → spot_at ls i ≡ record { given = given; line = x }
@@ -135,12 +116,11 @@ pub refused_here : (ls : List GrLine) (x : GrLine) (i : ℕ) (given : Option Siz
 refused_here ls x i given (Refused r) lt e g before h = (h.0, refusal_here ls x i r.row r.cause given lt e g before h.1 h.2)
 refused_here ls x i given NoMemory lt e g before h = tt
 
--- behind the last line
-pub at_end : (ls : List GrLine) (rest : List ℕ) (i : ℕ) → i ≤ length ls → drop i ls ≡ gr_lines rest → (length rest == 0) ≡ true → i ≡ length ls
-at_end ls rest i le ahead none =
+-- no text, no line
+pub gr_lines-empty : (rest : List ℕ) → (length rest == 0) ≡ true → gr_lines rest ≡ []
+gr_lines-empty rest none =
     let empty : length rest ≡ 0 = grind (arith, nat_tests) in
-    let nothing : length (drop i ls) ≡ 0 = ap length (ahead ∙ ap gr_lines (nil_from_length rest empty) ∙ gr_lines-nil) in
-    omega (arith, length-drop i ls)
+    ap gr_lines (nil_from_length rest empty) ∙ gr_lines-nil
 
 -- the first refusal of a line is that of the text
 pub refused_by_line : (text : List ℕ) (s : Stopped)

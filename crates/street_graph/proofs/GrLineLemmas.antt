@@ -4,7 +4,7 @@ use Rattle.std.specs.Prelude.{◌==◌, slice_index, codes}
 use Rattle.std.specs.Str.{bytes_eq}
 use Rattle.street_graph.specs.declared.gr.GrLine.{GrLine}
 use Rattle.street_graph.specs.declared.gr.GrLine.TheVariants.{Skipped, Problem, Arc, Faulty}
-use Rattle.street_graph.specs.Text.{number_of, first_number, BeginsWithNumber}
+use Rattle.street_graph.specs.Text.{number_of, first_number, first_is, BeginsWithNumber, BeginsWithWord}
 use Rattle.street_graph.specs.Gr.{arc_line, problem_line, gr_line_of}
 
 pub arc_without : (fs : List (List ℕ)) → first_number fs ≡ None → Faulty ≡ arc_line fs
@@ -55,19 +55,13 @@ pub arc_four : (all more most rest last : List (List ℕ)) (a b c : ℕ) (x : Li
 arc_four all more most rest last a b c x p q r e =
     rw (p.splits, q.splits, r.splits, e) (four-of p.field q.field r.field x last)
 
-pub problem_empty : (fs : List (List ℕ)) → fs ≡ [] → Faulty ≡ problem_line fs
+pub problem_other : (fs : List (List ℕ)) → first_is fs (codes "sp") ≡ false → Faulty ≡ problem_line fs
 unfolding problem_line
-problem_empty fs e = rw e refl
-
-other-of : (kind : List ℕ) (fs : List (List ℕ)) → bytes_eq kind (codes "sp") ≡ false → Faulty ≡ problem_line (kind ∷ fs)
-unfolding problem_line
-other-of kind [] e = refl
-other-of kind (n ∷ []) e = refl
-other-of kind (n ∷ m ∷ []) e = rw e refl
-other-of kind (n ∷ m ∷ x ∷ more) e = refl
-
-pub problem_other : (all rest : List (List ℕ)) (kind : List ℕ) → all ≡ kind ∷ rest → bytes_eq kind (codes "sp") ≡ false → Faulty ≡ problem_line all
-problem_other all rest kind e other = rw e (other-of kind rest other)
+problem_other [] e = refl
+problem_other (kind ∷ []) e = refl
+problem_other (kind ∷ n ∷ []) e = refl
+problem_other (kind ∷ n ∷ m ∷ []) e = rw e refl
+problem_other (kind ∷ n ∷ m ∷ x ∷ more) e = refl
 
 none-of : (kind : List ℕ) (fs : List (List ℕ)) → bytes_eq kind (codes "sp") ≡ true → first_number fs ≡ None → Faulty ≡ problem_line (kind ∷ fs)
 unfolding problem_line
@@ -76,9 +70,8 @@ none-of kind (n ∷ []) k e = refl
 none-of kind (n ∷ m ∷ []) k e = rw (k, e) refl
 none-of kind (n ∷ m ∷ x ∷ more) k e = refl
 
-pub problem_without : (all rest : List (List ℕ)) (kind : List ℕ) → all ≡ kind ∷ rest → bytes_eq kind (codes "sp") ≡ true
-    → first_number rest ≡ None → Faulty ≡ problem_line all
-problem_without all rest kind e k none = rw e (none-of kind rest k none)
+pub problem_without : (all rest : List (List ℕ)) → BeginsWithWord all (codes "sp") rest → first_number rest ≡ None → Faulty ≡ problem_line all
+problem_without all rest w none = rw w.splits (none-of w.field rest w.same none)
 
 single-of : (kind u : List ℕ) (fs : List (List ℕ)) (a : ℕ) → bytes_eq kind (codes "sp") ≡ true → number_of u ≡ Some a → first_number fs ≡ None
     → Faulty ≡ problem_line (kind ∷ u ∷ fs)
@@ -87,28 +80,28 @@ single-of kind u [] a k i e = refl
 single-of kind u (m ∷ []) a k i e = rw (k, i, e) refl
 single-of kind u (m ∷ x ∷ more) a k i e = refl
 
-pub problem_one : (all more rest : List (List ℕ)) (kind : List ℕ) (a : ℕ) → all ≡ kind ∷ more → bytes_eq kind (codes "sp") ≡ true
-    → BeginsWithNumber more a rest → first_number rest ≡ None → Faulty ≡ problem_line all
-problem_one all more rest kind a e k p none = rw (e, p.splits) (single-of kind p.field rest a k p.value none)
+pub problem_one : (all more rest : List (List ℕ)) (a : ℕ) → BeginsWithWord all (codes "sp") more → BeginsWithNumber more a rest
+    → first_number rest ≡ None → Faulty ≡ problem_line all
+problem_one all more rest a w p none = rw (w.splits, p.splits) (single-of w.field p.field rest a w.same p.value none)
 
 both-of : (kind u v : List ℕ) (a b : ℕ) → bytes_eq kind (codes "sp") ≡ true → number_of u ≡ Some a → number_of v ≡ Some b
     → Problem a b ≡ problem_line (kind ∷ u ∷ v ∷ [])
 unfolding problem_line
 both-of kind u v a b k i j = rw (k, i, j) refl
 
-pub problem_two : (all more most rest : List (List ℕ)) (kind : List ℕ) (a b : ℕ) → all ≡ kind ∷ more → bytes_eq kind (codes "sp") ≡ true
+pub problem_two : (all more most rest : List (List ℕ)) (a b : ℕ) → BeginsWithWord all (codes "sp") more
     → BeginsWithNumber more a most → BeginsWithNumber most b rest → rest ≡ [] → Problem a b ≡ problem_line all
-problem_two all more most rest kind a b e k p q end =
-    rw (e, p.splits, q.splits, end) (both-of kind p.field q.field a b k p.value q.value)
+problem_two all more most rest a b w p q end =
+    rw (w.splits, p.splits, q.splits, end) (both-of w.field p.field q.field a b w.same p.value q.value)
 
 long-of : (kind u v x : List ℕ) (more : List (List ℕ)) → Faulty ≡ problem_line (kind ∷ u ∷ v ∷ x ∷ more)
 unfolding problem_line
 long-of kind u v x more = refl
 
-pub problem_three : (all more most rest last : List (List ℕ)) (kind x : List ℕ) (a b : ℕ) → all ≡ kind ∷ more
+pub problem_three : (all more most rest last : List (List ℕ)) (x : List ℕ) (a b : ℕ) → BeginsWithWord all (codes "sp") more
     → BeginsWithNumber more a most → BeginsWithNumber most b rest → rest ≡ x ∷ last → Faulty ≡ problem_line all
-problem_three all more most rest last kind x a b e p q end =
-    rw (e, p.splits, q.splits, end) (long-of kind p.field q.field x last)
+problem_three all more most rest last x a b w p q end =
+    rw (w.splits, p.splits, q.splits, end) (long-of w.field p.field q.field x last)
 
 pub line_empty : (fs : List (List ℕ)) → fs ≡ [] → Skipped ≡ gr_line_of fs
 unfolding gr_line_of

@@ -1,7 +1,9 @@
 pub mod TextLemmas
 pub mod NumberLemmas
 pub mod GrLineLemmas
-pub mod RefusalLemmas
+pub mod LineLemmas
 pub mod GrLemmas
 pub mod LimitLemmas
 pub mod RowLemmas
+pub mod CoLineLemmas
+pub mod CoLemmas

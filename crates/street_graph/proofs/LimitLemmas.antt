@@ -12,9 +12,9 @@ use Rattle.street_graph.specs.declared.gr.GrLine.{GrLine}
 use Rattle.street_graph.specs.declared.gr.GrLine.TheVariants.{Skipped, Problem, Arc, Faulty}
 use Rattle.street_graph.specs.declared.gr.Size.{Size}
 use Rattle.street_graph.specs.declared.gr.Draft.{Draft}
-use Rattle.street_graph.specs.Refusal.{HoldAt}
+use Rattle.refusals.specs.Refusal.{HoldAt}
 use Rattle.street_graph.specs.Gr.{LinesHold, gr_rules, form_broken, nodes_broken, arcs_broken, from_broken, to_broken, seconds_broken, vertex_broken, is_within, size_of, first_some, arcs_in, arcs_of, IsSizeRow}
-use Rattle.street_graph.specs.Draft.{HasRead}
+use Rattle.street_graph.specs.GrDraft.{HasRead}
 use Rattle.street_graph.specs.Graph.{IsWithinLimits}
 use Rattle.street_graph.proofs.GrLemmas.{size_of-append, arcs_of-push}
 

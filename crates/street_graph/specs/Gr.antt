@@ -18,7 +18,7 @@ use Rattle.street_graph.specs.declared.gr.GrLine.{GrLine}
 use Rattle.street_graph.specs.declared.gr.GrLine.TheVariants as gr_line
 use Rattle.street_graph.specs.declared.gr.Size.{Size}
 use Rattle.street_graph.specs.Text.{fields, number_of}
-use Rattle.street_graph.specs.Refusal.{Accepted, IsFirstRefusal}
+use Rattle.refusals.specs.Refusal.{Accepted, IsFirstRefusal}
 
 abbrev pub problem_by : Option ℕ → Option ℕ → GrLine
 problem_by (Some n) (Some m) = gr_line.Problem n m

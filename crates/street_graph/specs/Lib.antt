@@ -1,6 +1,8 @@
 pub mod Text
-pub mod Refusal
+pub mod Refused
 pub mod Gr
 pub mod Graph
-pub mod Draft
+pub mod GrDraft
+pub mod Co
+pub mod CoDraft
 pub mod Rows

@@ -2,9 +2,9 @@
 --     is_blank b         b is a space or a tab
 --     fields line        what stands between the blanks of the line
 --     number_of text     the number that 1 to 20 decimal digits spell, where it is below 2 ^ 64
-use Rattle.std.specs.Prelude.{◌≡◌, [], ◌∷◌, ◌==◌, ◌||◌, ◌&&◌, ◌^◌, ℕ, Bool, List, length, filter, Option, Some, None, nat_lt, nat_le, if◌then◌else◌}
+use Rattle.std.specs.Prelude.{◌≡◌, [], ◌∷◌, ◌==◌, ◌||◌, ◌&&◌, ◌^◌, ℕ, Bool, true, false, List, length, filter, Option, Some, None, nat_lt, nat_le, if◌then◌else◌}
 use Rattle.std.specs.List.{slice_split}
-use Rattle.std.specs.Str.{all_ascii_digits}
+use Rattle.std.specs.Str.{all_ascii_digits, bytes_eq}
 use Rattle.std.specs.Str.Parse.{digits_value}
 
 abbrev pub is_blank : ℕ → Bool
@@ -32,3 +32,14 @@ pub record BeginsWithNumber (all : List (List ℕ)) (n : ℕ) (rest : List (List
   pub field : List ℕ
   pub splits : all ≡ field ∷ rest
   pub value : number_of field ≡ Some n
+
+-- the first field, if there is one, is this word
+abbrev pub first_is : List (List ℕ) → List ℕ → Bool
+first_is [] word = false
+first_is (field ∷ more) word = bytes_eq field word
+
+-- the first field is this word, and these are the fields behind it
+pub record BeginsWithWord (all : List (List ℕ)) (word : List ℕ) (rest : List (List ℕ)) : Type 0 where
+  pub field : List ℕ
+  pub splits : all ≡ field ∷ rest
+  pub same : bytes_eq field word ≡ true

@@ -1,13 +1,14 @@
 // The form `.gr`: vertices and arcs.
-ghost use Rattle.std.specs.Prelude.{◌≡◌, ◌≤◌, ◌++◌, length, OnOk, IfOk, MatchOption, is_some, Some, None, if◌then◌else◌};
-ghost use Rattle.street_graph.specs.Text.{fields, first_number, BeginsWithNumber};
-ghost use Rattle.street_graph.specs.Refusal.{Tests, or_then, first_cause, IsFirstRefusal, IfRefused};
+ghost use Rattle.std.specs.Prelude.{◌≡◌, ◌≤◌, ◌++◌, length, OnOk, IfOk, is_some, Some, None, if◌then◌else◌};
+ghost use Rattle.street_graph.specs.Text.{fields};
+ghost use Rattle.refusals.specs.Refusal.{Tests, or_then, first_cause, IsFirstRefusal};
+ghost use Rattle.street_graph.specs.Refused.{IfRefused};
 ghost use Rattle.street_graph.specs.Gr as spec;
-ghost use Rattle.street_graph.specs.Draft.{HasRead};
+ghost use Rattle.street_graph.specs.GrDraft.{HasRead};
 
 use crate::Graph;
-use crate::number::number;
-use crate::text::{next_field, next_line};
+use crate::number::next_number;
+use crate::text::{next_field, next_line, next_word};
 use move_model::{Arc, Arcs, Cause, FileKind, NodeNo, Refusal, Stopped};
 use std::alloc::Global;
 
@@ -33,29 +34,12 @@ pub(crate) struct Size {
     arcs: u32,
 }
 
-// The number in the first field of a line, and the bytes behind it, or None where there is no field or it is no number.
-fn next_number(line: &[u8]) -> Option<(u64, &[u8])>
-    ensures { MatchOption result (first_number (fields line.now) ≡ None)
-        (λ next. BeginsWithNumber (fields line.now) next.0 (fields next.1.now)) }
-{
-    let Some((field, more)) = next_field(line) else {
-        return None;
-    };
-    match number(field) {
-        Some(value) => Some((value, more)),
-        None => None,
-    }
-}
-
 fn problem_line(line: &[u8]) -> GrLine
     ensures { result ≡ spec.problem_line (fields line.now) }
 {
-    let Some((kind, line)) = next_field(line) else {
+    let Some(line) = next_word(line, b"sp") else {
         return GrLine::Faulty;
     };
-    if kind != b"sp".as_slice() {
-        return GrLine::Faulty;
-    }
     let Some((nodes, line)) = next_number(line) else {
         return GrLine::Faulty;
     };

@@ -2,14 +2,18 @@
 //! coordinates, and the graph with its arcs by vertex.
 #![tactic(auto)]
 
+mod co;
 mod gr;
 mod graph;
 mod number;
+mod point;
 mod rows;
 #[cfg(test)]
 mod tests;
 mod text;
 
+pub use co::read_co;
 pub use gr::read_gr;
 pub use graph::Graph;
+pub use point::{Point, Points};
 pub use rows::Half;

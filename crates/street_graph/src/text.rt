@@ -1,8 +1,8 @@
 // The lines of a text, and the fields of a line.
-ghost use Rattle.std.specs.Prelude.{not, ◌≡◌, ◌<◌, ◌≤◌, ◌==◌, length, [], ◌∷◌, MatchOption, IfSome};
+ghost use Rattle.std.specs.Prelude.{not, false, ◌≡◌, ◌<◌, ◌≤◌, ◌==◌, length, [], ◌∷◌, MatchOption, IfSome};
 ghost use Rattle.std.specs.List.{position_or_len};
 ghost use Rattle.std.specs.Str.Lines.{lines, strip_carriage_return};
-ghost use Rattle.street_graph.specs.Text.{is_blank, fields};
+ghost use Rattle.street_graph.specs.Text.{is_blank, fields, first_is, BeginsWithWord};
 
 // How many bytes stand before the first line feed, or all where there is none.
 #[tactic(auto, using(std::proofs::lemmas::List::Sums::position_or_len_is))]
@@ -82,4 +82,15 @@ pub(crate) fn next_field(line: &[u8]) -> Option<(&[u8], &[u8])>
     let line = &line[begin..];
     let end = field_len(line);
     Some((&line[..end], &line[end..]))
+}
+
+// The bytes behind the first field of a line, or None where the first field is not this word.
+pub(crate) fn next_word<'a>(line: &'a [u8], word: &[u8]) -> Option<&'a [u8]>
+    ensures { MatchOption result (first_is (fields line.now) word.now ≡ false)
+        (λ rest. BeginsWithWord (fields line.now) word.now (fields rest.now)) }
+{
+    let Some((field, more)) = next_field(line) else {
+        return None;
+    };
+    if field == word { Some(more) } else { None }
 }

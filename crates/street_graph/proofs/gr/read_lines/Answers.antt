@@ -2,7 +2,9 @@ use Rattle.std.proofs.Common.{◌≡◌, ◌∙◌, ◌+◌, ◌∷◌, take, dr
 use Rattle.std.proofs.lemmas.List.{take_all, length-take-le}
 use Rattle.std.proofs.lemmas.Result.{err_from_is_err_and}
 use Rattle.street_graph.specs.Gr.{gr_lines}
-use Rattle.street_graph.proofs.GrLemmas.{gr_lines_first, here, hold_more, has_read_more, refused_here, at_end}
+use Rattle.street_graph.specs.declared.gr.GrLine.TheVariants.{Skipped}
+use Rattle.street_graph.proofs.LineLemmas.{here, at_end}
+use Rattle.street_graph.proofs.GrLemmas.{gr_lines_first, gr_lines-empty, hold_more, has_read_more, refused_here}
 use Rattle.street_graph.proofs.gr.read_lines.Goals as goal
 
 pub loop-rest-preserved : goal.loop-rest-preserved
@@ -14,7 +16,7 @@ loop-rest-preserved c =
     let first : drop i ls ≡ line ∷ gr_lines c.next_line.result.1.now =
     v.ahead ∙ gr_lines_first c.loop-rest.rest.now c.next_line.result.0.now c.next_line.result.1.now c.next_line.ensures.first
     ∙ ap (λ x. x ∷ gr_lines c.next_line.result.1.now) (sym c.gr_line.ensures) in
-    let h = here ls (gr_lines c.next_line.result.1.now) line i v.within first in
+    let h = here ls (gr_lines c.next_line.result.1.now) line Skipped i v.within first in
     record {
       left = omega (arith, c.next_line.ensures.shorter, v.left);
       counted = omega (arith, c.next_line.ensures.shorter, v.counted);
@@ -34,19 +36,19 @@ returns-in_err-take-clause-refused c =
     let first : drop i ls ≡ line ∷ gr_lines c.next_line.result.1.now =
     v.ahead ∙ gr_lines_first c.loop-rest.rest.now c.next_line.result.0.now c.next_line.result.1.now c.next_line.ensures.first
     ∙ ap (λ x. x ∷ gr_lines c.next_line.result.1.now) (sym c.gr_line.ensures) in
-    let h = here ls (gr_lines c.next_line.result.1.now) line i v.within first in
+    let h = here ls (gr_lines c.next_line.result.1.now) line Skipped i v.within first in
     let p = err_from_is_err_and c.from_residual.result c.from_residual.ensures.1 in
     rw (p.1, p.2) (refused_here ls line i c.loop-rest.draft.size _ h.0 h.1 v.read.size v.hold c.in_err-take.ensures.refused)
 
 pub returns-clause-hold : goal.returns-clause-hold
 returns-clause-hold c =
     let v = c.loop-rest.invariant in
-    let end = at_end (gr_lines c.args.text.now) c.loop-rest.rest.now c.loop-rest.row v.within v.ahead (sym c.is_empty.ensures ∙ c.loop-rest-test.false) in
+    let end = at_end (gr_lines c.args.text.now) c.loop-rest.row v.within (v.ahead ∙ gr_lines-empty c.loop-rest.rest.now (sym c.is_empty.ensures ∙ c.loop-rest-test.false)) in
     rw (← end) v.hold
 
 pub returns-clause-read : goal.returns-clause-read
 returns-clause-read c =
     let ls = gr_lines c.args.text.now in
     let v = c.loop-rest.invariant in
-    let end = at_end ls c.loop-rest.rest.now c.loop-rest.row v.within v.ahead (sym c.is_empty.ensures ∙ c.loop-rest-test.false) in
+    let end = at_end ls c.loop-rest.row v.within (v.ahead ∙ gr_lines-empty c.loop-rest.rest.now (sym c.is_empty.ensures ∙ c.loop-rest-test.false)) in
     rw (take_all c.loop-rest.row ls (omega arith)) at v.read

@@ -1,7 +1,7 @@
 use Rattle.std.proofs.Common.{◌≡◌, ◌+◌, ◌≤◌, length, drop, take}
-use Rattle.street_graph.specs.Refusal.{Accepted}
+use Rattle.refusals.specs.Refusal.{Accepted}
 use Rattle.street_graph.specs.Gr.{gr_lines, gr_rules, spot_at}
-use Rattle.street_graph.specs.Draft.{HasRead}
+use Rattle.street_graph.specs.GrDraft.{HasRead}
 use Rattle.street_graph.proofs.gr.read_lines.Given as goal
 
 abbrev pub invariant-loop-rest : goal.invariant-loop-rest
