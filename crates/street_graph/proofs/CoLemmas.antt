@@ -1,11 +1,11 @@
 -- What the lines of coordinates so far gave, one line on, and what follows behind the last line.
 use Rattle.std.proofs.Common.{◌≡◌, ◌≢◌, ◌∙◌, ◌+◌, ◌-◌, ◌<◌, ◌≤◌, ℕ, Bool, true, false, cond, List, [], ◌∷◌, ◌++◌, length, take, get_or, set, map, Option, Some, None, Err, replicate, pos, refl, sym, ap, inl, inr, arith}
 use Rattle.std.specs.Prelude.{◌==◌, ◌&&◌, ◌||◌, nat_le, slice_get, count_by, if◌then◌else◌}
-use Rattle.std.specs.List.{list_any}
+use Rattle.std.specs.List.{list_any, Any}
 use Rattle.std.specs.Str.Lines.{lines}
 use Rattle.std.proofs.lemmas.List.{nil_from_length, length-set, get_or-set_same, get_or-set_other, get_or-replicate, length-replicate}
-use Rattle.std.proofs.lemmas.List.Sums.{sum_by_push}
-use Rattle.std.proofs.lemmas.List.Folds.{list_any-append, list_any_at}
+use Rattle.std.proofs.lemmas.List.Sums.{sum_by_push, sum_by-set, count_by-le-length}
+use Rattle.std.proofs.lemmas.List.Folds.{list_any-append, list_any_at, Any-from_list_any, sum_by-replicate}
 use Rattle.std.proofs.lemmas.Option.{slice_get-get_or, slice_get_within, get_or_from_slice_get}
 use Rattle.std.proofs.lemmas.Bool.Decides.{nat_tests}
 use Rattle.move_model.specs.declared.refusal.Cause.{Cause}
@@ -22,8 +22,8 @@ use Rattle.street_graph.specs.declared.point.Point.{Point}
 use Rattle.street_graph.specs.Text.{fields}
 use Rattle.refusals.specs.Refusal.{IsFirstRefusal, first_cause, or_then}
 use Rattle.street_graph.specs.Refused.{IfRefused}
-use Rattle.street_graph.specs.Co.{co_lines, co_line_of, co_rules, co_form_broken, co_size_broken, co_vertex_broken, co_repeated_broken, co_coordinate_broken, co_spot_at, is_size, is_place, is_place_of, ArePlaced, IsCoSizeRow, CoLinesHold, IsCoRefused, by_line, no_size, miscounted}
-use Rattle.street_graph.specs.CoDraft.{cause_at, marked_broken, point_of, points_after, placed_after, HasPlaced}
+use Rattle.street_graph.specs.Co.{co_lines, co_line_of, co_rules, co_form_broken, co_size_broken, co_vertex_broken, co_repeated_broken, co_coordinate_broken, co_spot_at, is_size, is_place, is_place_of, IsPlaced, AreCoPoints, IsCoSizeRow, CoLinesHold, IsCoRefused, by_line, no_size, miscounted}
+use Rattle.street_graph.specs.CoDraft.{cause_at, marked_broken, point_of, points_after, placed_after, ArePlaced, HasPlaced}
 use Rattle.street_graph.proofs.LineLemmas.{slice_get-push, slice_get_last, slice_get_back}
 
 -- the lines of a text are what its first line says and the lines behind
@@ -253,6 +253,61 @@ length-placed_after placed Faulty = refl
 length-placed_after placed (Size n) = refl
 length-placed_after placed (Place id x y) = length-set placed (id - 1) true
 
+-- a line that places a vertex marks one more
+marked_more : (nodes : ℕ) (placed : List Bool) (line : CoLine) → length placed ≡ nodes
+    → ((id : ℕ) (x y : Signed) → line ≡ Place id x y → (1 ≤ id) × (id ≤ nodes) × (get_or placed (id - 1) false ≡ false))
+    → count_by (λ mark. mark) (placed_after placed line) ≡ count_by (λ mark. mark) placed + (if is_place line then 1 else 0)
+marked_more nodes placed Skipped len ids = omega arith
+marked_more nodes placed Faulty len ids = omega arith
+marked_more nodes placed (Size n) len ids = omega arith
+marked_more nodes placed (Place id x y) len ids =
+    let f = ids id x y refl in
+    let within : id - 1 < length placed = omega (arith, f.0, f.1) in
+    let unmarked : ◌≡◌ {A = ℕ} (cond (get_or placed (id - 1) false) 1 0) 0 = rw f.2 refl in
+    omega (arith, sum_by-set (λ mark. cond mark 1 0) placed (id - 1) true false within)
+
+-- where there are as many marks as vertices, each vertex is marked
+all_marked : (marks : List Bool) (k : ℕ) (mark : Bool) → get_or marks k false ≡ mark → k < length marks
+    → count_by (λ m. m) marks ≡ length marks → mark ≡ true
+all_marked marks k true e lt full = refl
+all_marked marks k false e lt full =
+    let unmarked : ◌≡◌ {A = ℕ} (cond (get_or marks k false) 1 0) 0 = rw e refl in
+    absurd (omega (arith, sum_by-set (λ m. cond m 1 0) marks k true false lt, count_by-le-length (λ m. m) (set marks k true), length-set marks k true))
+
+-- the point of a vertex that a line places
+placed_by : (lines : List CoLine) (points : List Point) (v : ℕ) (line : CoLine) (i : ℕ) → slice_get lines i ≡ Some line
+    → is_place_of v line ≡ true → ArePlaced lines points → IsPlaced lines points v
+placed_by lines points v Skipped i this e before = cc
+placed_by lines points v Faulty i this e before = cc
+placed_by lines points v (Size n) i this e before = cc
+placed_by lines points v (Place id x y) i this e before =
+    let same : id ≡ v = grind (arith, nat_tests) in
+    let line : slice_get lines i ≡ Some (Place v x y) = this ∙ ap (λ u. Some (Place u x y)) same in
+    record { place = i; x = x; y = y; line = line; point = before v x y i line }
+
+placed_by_any : (lines : List CoLine) (points : List Point) (v : ℕ) → Any (λ line. is_place_of v line ≡ true) lines → ArePlaced lines points
+    → IsPlaced lines points v
+placed_by_any lines points v found before =
+    let line : slice_get lines found.0 ≡ Some found.1 = slice_get-get_or lines found.0 found.1 found.2 ∙ ap (λ l. Some l) found.3 in
+    placed_by lines points v found.1 found.0 line found.4 before
+
+-- the points that the lines of a text gave
+pub are_co_points : (nodes : ℕ) (text : List ℕ) (draft : Draft) → CoLinesHold nodes (co_lines text) → HasPlaced nodes draft (co_lines text)
+    → draft.sized ≡ true → draft.count ≡ nodes → AreCoPoints nodes text draft.points.items
+are_co_points nodes text draft hold read sized count =
+    record {
+      hold = hold;
+      sized = sym read.sized ∙ sized;
+      counted = sym read.count ∙ count;
+      one_each = read.one_each;
+      placed = λ v from to.
+          let within : v - 1 < length draft.placed.items = omega (arith, read.one_mark_each) in
+          let full : count_by (λ m. m) draft.placed.items ≡ length draft.placed.items = read.marked ∙ count ∙ sym read.one_mark_each in
+          let mark : list_any (is_place_of v) (co_lines text) ≡ true =
+          sym (read.marks v from to) ∙ all_marked draft.placed.items (v - 1) (get_or draft.placed.items (v - 1) false) refl within full in
+          placed_by_any (co_lines text) draft.points.items v (Any-from_list_any (is_place_of v) (co_lines text) mark) read.placed;
+    }
+
 -- one line on
 pub has_placed_more : (nodes : ℕ) (lines : List CoLine) (line : CoLine) (old new : Draft) (row : ℕ) → row ≡ length lines + 1 → HasPlaced nodes old lines
     → cause_at nodes old.sized old.placed.items line ≡ None
@@ -266,6 +321,8 @@ has_placed_more nodes lines line old new row number h holds points placed count 
       sized = sized ∙ ap (λ b. b || is_size line) h.sized ∙ sym (list_any-push is_size lines line);
       row = λ e. row_more lines line old.sized row old.row new.row number row_is h.row (sym sized ∙ e);
       count = count ∙ ap (λ n. n + (if is_place line then 1 else 0)) h.count ∙ sym (sum_by_push (λ l. cond (is_place l) 1 0) lines line);
+      marked = ap (count_by (λ m. m)) placed ∙ marked_more nodes old.placed.items line h.one_mark_each ids
+          ∙ ap (λ n. n + (if is_place line then 1 else 0)) h.marked ∙ sym count;
       one_each = ap length points ∙ length-points_after old.points.items line ∙ h.one_each;
       one_mark_each = ap length placed ∙ length-placed_after old.placed.items line ∙ h.one_mark_each;
       marks = λ v from to. ap (λ (marks : List Bool). get_or marks (v - 1) false) placed
@@ -283,6 +340,7 @@ has_placed_none nodes draft sized count points placed =
       sized = sized;
       row = λ e. cc;
       count = count;
+      marked = omega (arith, ap (count_by (λ m. m)) placed, sum_by-replicate (λ (m : Bool). cond m 1 0) nodes false, count);
       one_each = ap length points ∙ length-replicate nodes (record { lat = pos 0; lon = pos 0 });
       one_mark_each = ap length placed ∙ length-replicate nodes false;
       marks = λ v from to. ap (λ (marks : List Bool). get_or marks (v - 1) false) placed ∙ get_or-replicate nodes (v - 1) false false (omega arith);

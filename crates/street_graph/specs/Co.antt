@@ -2,9 +2,10 @@
 -- line, the first rule that a text breaks, and the points that a text gives.
 --     co_lines text                        what each line of the text says
 --     co_rules nodes                       the rules of a line, in their order
+--     IsPlaced lines points v              a line places vertex v, and the points have it there
 --     AreCoPoints nodes text points        the text breaks no rule, and these are the points of the vertices from 1
 --     IsCoRefused nodes text row cause     the first broken rule has this row, or row 0 for the whole text, and this cause
-use Rattle.std.specs.Prelude.{◌≡◌, ◌≢◌, ◌+◌, ◌-◌, ◌&&◌, ◌==◌, ℕ, ℤ, pos, neg_ℤ, Bool, true, false, List, [], ◌∷◌, length, take, drop, map, count_by, slice_get, slice_index, slice_index_or, Option, Some, None, codes, nat_le, if◌then◌else◌}
+use Rattle.std.specs.Prelude.{◌≡◌, ◌≢◌, ◌+◌, ◌-◌, ◌≤◌, ◌&&◌, ◌==◌, ℕ, ℤ, pos, neg_ℤ, Bool, true, false, List, [], ◌∷◌, length, take, drop, map, count_by, slice_get, slice_index, slice_index_or, Option, Some, None, codes, nat_le, if◌then◌else◌}
 use Rattle.std.specs.List.{list_any}
 use Rattle.std.specs.Str.{bytes_eq}
 use Rattle.std.specs.Str.Lines.{lines}
@@ -123,18 +124,22 @@ CoLinesHold nodes lines = Accepted (co_rules nodes) (co_spot_at lines) (length l
 abbrev pub int_of : Signed → ℤ
 int_of signed = if signed.negative then neg_ℤ (pos signed.size) else pos signed.size
 
--- each line that places a vertex gives its point
-abbrev pub ArePlaced : List CoLine → List Point → Type 0
-ArePlaced lines points = (id : ℕ) (x y : Signed) (i : ℕ) → slice_get lines i ≡ Some (co_line.Place id x y)
-    → slice_get points (id - 1) ≡ Some (record { lat = int_of y; lon = int_of x })
+-- a line places the vertex, and these points have its coordinates there
+pub record IsPlaced (lines : List CoLine) (points : List Point) (v : ℕ) : Type 0 where
+  pub place : ℕ
+  pub x : Signed
+  pub y : Signed
+  pub line : slice_get lines place ≡ Some (co_line.Place v x y)
+  pub point : slice_get points (v - 1) ≡ Some (record { lat = int_of y; lon = int_of x })
 
--- every line keeps the rules, there is a `p` line, each vertex is placed, and these are the points
+-- every line keeps the rules, there is a `p` line, as many lines place a vertex as there are vertices, and the points
+-- are those at which the lines place the vertices
 pub record AreCoPoints (nodes : ℕ) (text : List ℕ) (points : List Point) : Type 0 where
   pub hold : CoLinesHold nodes (co_lines text)
   pub sized : list_any is_size (co_lines text) ≡ true
   pub counted : count_by is_place (co_lines text) ≡ nodes
   pub one_each : length points ≡ nodes
-  pub placed : ArePlaced (co_lines text) points
+  pub placed : (v : ℕ) → 1 ≤ v → v ≤ nodes → IsPlaced (co_lines text) points v
 
 -- the line of this row is the `p` line
 pub record IsCoSizeRow (lines : List CoLine) (row : ℕ) : Type 0 where

@@ -12,7 +12,7 @@ use Rattle.street_graph.specs.declared.co.Draft.{Draft}
 use Rattle.street_graph.specs.declared.co.Signed.{Signed}
 use Rattle.street_graph.specs.declared.point.Point.{Point}
 use Rattle.refusals.specs.Refusal.{or_then}
-use Rattle.street_graph.specs.Co.{signed_of, int_of, is_size, is_place, is_place_of, co_form_broken, co_size_broken, co_vertex_broken, co_coordinate_broken, IsCoSizeRow, ArePlaced}
+use Rattle.street_graph.specs.Co.{signed_of, int_of, is_size, is_place, is_place_of, co_form_broken, co_size_broken, co_vertex_broken, co_coordinate_broken, IsCoSizeRow}
 
 -- the signed number of the first field, if there is a field and it is such a number
 abbrev pub first_signed : List (List ℕ) → Option Signed
@@ -49,10 +49,15 @@ abbrev pub placed_after : List Bool → CoLine → List Bool
 placed_after placed (co_line.Place id x y) = slice_set placed (id - 1) true
 placed_after placed _ = placed
 
+-- each line that places a vertex gives its point
+abbrev pub ArePlaced : List CoLine → List Point → Type 0
+ArePlaced lines points = (id : ℕ) (x y : Signed) (i : ℕ) → slice_get lines i ≡ Some (co_line.Place id x y) → slice_get points (id - 1) ≡ Some (point_of x y)
+
 pub record HasPlaced (nodes : ℕ) (draft : Draft) (lines : List CoLine) : Type 0 where
   pub sized : draft.sized ≡ list_any is_size lines
   pub row : draft.sized ≡ true → IsCoSizeRow lines draft.row
   pub count : draft.count ≡ count_by is_place lines
+  pub marked : count_by (λ mark. mark) draft.placed.items ≡ draft.count
   pub one_each : length draft.points.items ≡ nodes
   pub one_mark_each : length draft.placed.items ≡ nodes
   pub marks : (v : ℕ) → 1 ≤ v → v ≤ nodes → slice_index_or draft.placed.items (v - 1) false ≡ list_any (is_place_of v) lines
