@@ -104,8 +104,12 @@ co_repeated_broken before (co_line.Place id x y) = if list_any (is_place_of id) 
 co_repeated_broken before _ = None
 
 -- the longitude is from -180 to 180 degrees, and the latitude from -90 to 90, in millionths
+unfoldable pub coordinate_broken : Signed → Signed → Option Cause
+coordinate_broken x y = if nat_le x.size 180000000 && nat_le y.size 90000000 then None else Some Coordinate
+
+-- a vertex is placed within them
 unfoldable pub co_coordinate_broken : CoLine → Option Cause
-co_coordinate_broken (co_line.Place id x y) = if nat_le x.size 180000000 && nat_le y.size 90000000 then None else Some Coordinate
+co_coordinate_broken (co_line.Place id x y) = coordinate_broken x y
 co_coordinate_broken _ = None
 
 -- the rules of a line, in their order

@@ -1,5 +1,5 @@
 // The form `.co`: coordinates.
-ghost use Rattle.std.specs.Prelude.{◌==◌, IsTrue, slice_index, ◌≡◌, ◌≤◌, ◌∷◌, ◌++◌, ◌||◌, ◌+◌, ◌-◌, ◌<◌, ◌^◌, [], true, slice_set, ℕ, length, OnOk, IfOk, MatchOption, None, count_by, if◌then◌else◌};
+ghost use Rattle.std.specs.Prelude.{◌==◌, IsTrue, slice_index, ◌≡◌, ◌≤◌, ◌∷◌, ◌++◌, ◌||◌, ◌+◌, ◌-◌, ◌<◌, ◌^◌, [], true, slice_set, ℕ, length, OnOk, IfOk, MatchOption, Some, None, count_by, if◌then◌else◌};
 ghost use Rattle.street_graph.specs.Text.{fields, first_number, BeginsWithNumber};
 ghost use Rattle.refusals.specs.Refusal.{Tests, or_then, first_cause, IsFirstRefusal};
 ghost use Rattle.street_graph.specs.Refused.{IfRefused};
@@ -142,6 +142,27 @@ fn degrees(signed: Signed) -> i32
     if signed.negative { -size } else { size }
 }
 
+// The point of these coordinates.
+#[tactic(auto, unfolding(crate::specs::Co::coordinate_broken))]
+fn checked_point(x: Signed, y: Signed) -> Result<Point, Cause>
+    ensures { Tests result (spec.coordinate_broken x y) (point_of x y) }
+{
+    if MAX_LONGITUDE < x.size || MAX_LATITUDE < y.size {
+        return Err(Cause::Coordinate);
+    }
+    Ok(Point {
+        lat: degrees(y),
+        lon: degrees(x),
+    })
+}
+
+// Tests the mark of a vertex, which says whether an earlier line places it.
+fn checked_mark(placed: bool) -> Result<(), Cause>
+    ensures { Tests result (if placed then Some Cause.Repeated else None) tt }
+{
+    if placed { Err(Cause::Repeated) } else { Ok(()) }
+}
+
 fn refused(row: u32, cause: Cause) -> Stopped
     ensures { result ≡ Stopped.Refused (record { file = FileKind.Co; row = row; cause = cause }) }
 {
@@ -201,16 +222,9 @@ impl Draft {
             return Err(Cause::Vertex(id));
         }
         let place = (id - 1) as usize;
-        if self.placed[place] {
-            return Err(Cause::Repeated);
-        }
-        if MAX_LONGITUDE < x.size || MAX_LATITUDE < y.size {
-            return Err(Cause::Coordinate);
-        }
-        self.points[place] = Point {
-            lat: degrees(y),
-            lon: degrees(x),
-        };
+        checked_mark(self.placed[place])?;
+        let point = checked_point(x, y)?;
+        self.points[place] = point;
         self.placed[place] = true;
         self.count += 1;
         Ok(())
