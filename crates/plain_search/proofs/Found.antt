@@ -31,7 +31,7 @@ pub record FoundBelow (n : Network) (s : NodeNo) (d : ℕ) (t : NodeNo) (rows : 
   pub rising : AllAdjacentBelow (λ p q. p.trips < q.trips) (map (λ finding. finding.pair) found) (length (map (λ finding. finding.pair) found))
   pub real : All (IsFound n s d t) found
 
-pub found_none : (n : Network) (s : NodeNo) (d : ℕ) (t : NodeNo) (rows : List Ways) → FoundBelow n s d t rows 0 []
+found_none : (n : Network) (s : NodeNo) (d : ℕ) (t : NodeNo) (rows : List Ways) → FoundBelow n s d t rows 0 []
 found_none n s d t rows =
     record {
       gains = λ pair. (λ among. absurd (omega (arith, among.1)), λ gain. absurd (omega (arith, gain.0)));
@@ -39,6 +39,11 @@ found_none n s d t rows =
       rising = λ i x inside. absurd (omega (arith, inside));
       real = λ i x inside. absurd (omega (arith, inside));
     }
+
+pub found_start : (n : Network) (s : NodeNo) (d : ℕ) (t : NodeNo) (rows : List Ways) (k : ℕ) (found : List Finding) → k ≡ 0 → found ≡ []
+    → FoundBelow n s d t rows k found
+found_start n s d t rows k found first none =
+    subst (λ j. FoundBelow n s d t rows j found) (sym first) (subst (λ fs. FoundBelow n s d t rows 0 fs) (sym none) (found_none n s d t rows))
 
 -- a level that has no gain
 pub found_pass : (n : Network) (s : NodeNo) (d : ℕ) (t : NodeNo) (rows : List Ways) (k : ℕ) (found : List Finding)

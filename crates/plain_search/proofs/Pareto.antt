@@ -1,5 +1,6 @@
 -- The Pareto set by the levels of a table.
-use Rattle.std.proofs.Common.{◌≡◌, ℕ, zero, suc, ◌+◌, ◌-◌, ◌<◌, ◌≤◌, List, [], length, get_or, refl, ap, subst, inl, inr, arith, Some, None}
+use Rattle.std.proofs.Common.{◌≡◌, ℕ, zero, suc, ◌+◌, ◌-◌, ◌<◌, ◌≤◌, List, [], length, get_or, Bool, true, false, refl, sym, ◌∙◌, ap, subst, inl, inr, arith, Some, None}
+use Rattle.std.specs.Bool.{MatchBool, OnTrue, OnFalse}
 use Rattle.std.proofs.lemmas.Bool.{cases_lt}
 use Rattle.move_model.specs.declared.network.Network.{Network}
 use Rattle.move_model.specs.declared.network.NodeNo.{NodeNo}
@@ -9,7 +10,7 @@ use Rattle.move_model.specs.Journey.{HasPair, IsNoWorse, IsBest, HasArrival}
 use Rattle.plain_search.specs.declared.way.Way.{Way}
 use Rattle.plain_search.specs.Row.{Ways, IsWayTo, HasWayBy}
 use Rattle.plain_search.specs.Levels.{before_of, IsTable}
-use Rattle.plain_search.proofs.Rows.{by_later}
+use Rattle.plain_search.proofs.Rows.{same_default, by_later}
 use Rattle.plain_search.proofs.JourneyLaws.{way_by, later_level, arrival_by, arrival_of}
 
 pub pair_eq : (p q : Pair) → p.arrive ≡ q.arrive → p.trips ≡ q.trips → p ≡ q
@@ -101,3 +102,29 @@ module _ (n : Network) (ok : IsNetwork n) (s : NodeNo) (d : ℕ) (rows : List Wa
             let there : HasWayBy (get_or rows pair.trips []) t other.arrive =
             subst (λ k. HasWayBy (get_or rows k []) t other.arrive) trips_are (pair_within other (omega (arith, few, many)) has) in
             pair_eq other pair (omega (arith, no_worse.0, gain.arrives, way_by (get_or rows pair.trips []) t gain.way other.arrive gain.at there)) trips_are
+
+-- whether a way would be the best of the row before, asked of that row as it was lent
+pub gain_asked : (rows : List Ways) (k : ℕ) (t : NodeNo) (second asked : ℕ) (row lent : Ways) (better : Bool) → 0 < k → k ≤ length rows
+    → row ≡ get_or rows (k - 1) row → lent ≡ row → asked ≡ second
+    → OnTrue better ((t.0 < length lent) × (HasWayBy lent t asked → ⊥)) → OnFalse better (t.0 < length lent → HasWayBy lent t asked)
+    → MatchBool better (HasWayBy (before_of rows k) t second → ⊥) ((0 < k) × (t.0 < length (before_of rows k) → HasWayBy (before_of rows k) t second))
+gain_asked rows zero t second asked row lent better some within row_is lent_is asked_is won lost = absurd (omega (arith, some))
+gain_asked rows (suc j) t second asked row lent better some within row_is lent_is asked_is won lost = go better won lost
+  where
+    e : suc j - 1 ≡ j
+    e = omega arith
+
+    same : lent ≡ get_or rows j []
+    same = lent_is ∙ subst (λ i. row ≡ get_or rows i row) e row_is ∙ same_default rows j row [] (omega (arith, within))
+
+    here : HasWayBy lent t asked → HasWayBy (get_or rows j []) t second
+    here has = subst (λ r. HasWayBy r t second) same (subst (λ m. HasWayBy lent t m) asked_is has)
+
+    there : HasWayBy (get_or rows j []) t second → HasWayBy lent t asked
+    there has = subst (λ m. HasWayBy lent t m) (sym asked_is) (subst (λ r. HasWayBy r t second) (sym same) has)
+
+    go : (better : Bool) → OnTrue better ((t.0 < length lent) × (HasWayBy lent t asked → ⊥)) → OnFalse better (t.0 < length lent → HasWayBy lent t asked)
+        → MatchBool better (HasWayBy (get_or rows j []) t second → ⊥)
+        ((0 < suc j) × (t.0 < length (get_or rows j []) → HasWayBy (get_or rows j []) t second))
+    go true won lost = λ has. won.1 (there has)
+    go false won lost = (omega arith, λ inside. here (lost (omega (arith, inside, ap (λ (r : Ways). length r) same))))

@@ -1,9 +1,13 @@
-use Rattle.std.proofs.Common.{List, length, subst, sym, ◌∙◌, ap, refl}
+use Rattle.std.proofs.Common.{List, length, subst, sym, ◌∙◌, ap, refl, arith}
 use Rattle.plain_search.specs.Row.{Ways}
 use Rattle.plain_search.specs.Levels.{IsTable}
 use Rattle.plain_search.proofs.Legs.{way_lent, none_lent}
-use Rattle.plain_search.proofs.Found.{found_all, found_lent, found_pass, no_gain_way, no_gain_below}
+use Rattle.plain_search.proofs.Found.{found_start, found_all, found_lent, found_pass, no_gain_way, no_gain_below}
 use Rattle.plain_search.proofs.answer.point_findings.Goals as goal
+
+pub loop-k-init : goal.loop-k-init
+loop-k-init c = λ ok numbered.
+    found_start c.args.network.now c.args.from c.args.depart c.args.to c.as_slice-rows.result.now _ c.new-found.result (omega arith) c.new-found.ensures
 
 -- no way
 pub loop-k-preserved-in_default : goal.loop-k-preserved-in_default
