@@ -1,1 +1,4 @@
+mod ArcLemmas
+mod LegLemmas
 mod RowLemmas
+mod WritingLemmas

@@ -1,18 +1,22 @@
--- The text of the rows of an answer, row by row.
-use Rattle.std.proofs.Common.{◌≡◌, ◌≢◌, ◌+◌, ◌<◌, ◌++◌, ℕ, List, [], ◌∷◌, length, drop, get_or, refl}
+-- The rows of an answer, finding by finding.
+use Rattle.std.proofs.Common.{◌≡◌, ◌≢◌, ◌∙◌, ◌+◌, ◌<◌, ◌++◌, ℕ, List, [], ◌∷◌, length, drop, get_or, refl, ap, sym}
 use Rattle.std.proofs.lemmas.List.{drop_more}
+use Rattle.move_model.specs.declared.network.Network.{Network}
 use Rattle.move_model.specs.declared.journey.Finding.{Finding}
 use Rattle.journey_print.specs.declared.answer.PointAnswer.{PointAnswer}
-use Rattle.journey_print.specs.Records.{pair_record, pairs_from, point_records, record_text, records_text}
+use Rattle.journey_print.specs.Records.{finding_records, findings_from, point_records}
 
--- the rows from one finding on are its row and those from the next on
-pub records_text-pairs_from : (query journey : ℕ) (answer : PointAnswer) (found : List Finding) (i : ℕ) (finding : Finding) → i < length found
-    → finding ≡ get_or found i finding
-    → records_text (pairs_from query journey answer (drop i found))
-    ≡ record_text (pair_record query journey answer finding) ++ records_text (pairs_from query (journey + 1) answer (drop (i + 1) found))
-records_text-pairs_from query journey answer found i finding within is = rw (drop_more found i finding within, ← is) refl
+-- the rows from one finding on are its rows and those from the next on
+pub findings_from-drop : (query journey : ℕ) (n : Network) (answer : PointAnswer) (found : List Finding) (i : ℕ) (finding : Finding)
+    → i < length found → finding ≡ get_or found i finding
+    → findings_from query journey n answer (drop i found)
+    ≡ finding_records query journey n answer finding ++ findings_from query (journey + 1) n answer (drop (i + 1) found)
+findings_from-drop query journey n answer found i finding within is =
+    ap (λ fs. findings_from query journey n answer fs) (drop_more found i finding within)
+    ∙ ap (λ f. finding_records query journey n answer f ++ findings_from query (journey + 1) n answer (drop (i + 1) found)) (sym is)
 
--- an answer with a finding gives rows of kind pair
-pub point_records-some : (query : ℕ) (answer : PointAnswer) (found : List Finding) → found ≢ [] → point_records query answer found ≡ pairs_from query 1 answer found
-point_records-some query answer [] some = absurd (some refl)
-point_records-some query answer (finding ∷ findings) some = refl
+-- an answer with a finding gives no row of kind none
+pub point_records-some : (query : ℕ) (n : Network) (answer : PointAnswer) (found : List Finding) → found ≢ []
+    → findings_from query 1 n answer found ≡ point_records query n answer found
+point_records-some query n answer [] some = absurd (some refl)
+point_records-some query n answer (finding ∷ findings) some = refl

@@ -2,7 +2,10 @@
 #![tactic(auto)]
 
 mod answer;
+mod arcs;
+mod legs;
 mod rows;
+mod text;
 
 pub use answer::{PointAnswer, PrintStop};
-pub use rows::{write_header, write_pairs};
+pub use rows::{write_header, write_point};

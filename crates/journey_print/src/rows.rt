@@ -1,23 +1,18 @@
 // The text of rows, and its way to a sink.
-ghost use Rattle.std.specs.Prelude.{◌≡◌, ◌∷◌, [], ◌++◌, ◌≤◌, List, ℕ, map, IfOk, OnOk, OnErr, IsErrOf};
+ghost use Rattle.std.specs.Prelude.{◌≡◌, [], ◌++◌, ◌<◌, ◌≤◌, ◌^◌, List, ℕ, All, IfOk, OnOk, OnErr, IsErrOf};
 ghost use Rattle.move_files.specs.Outside.{Rose, SendsPrefix};
+ghost use Rattle.journey_print.specs.Legs.{IsPrintable};
 ghost use Rattle.journey_print.specs.Records as spec;
 ghost use Rattle.journey_print.specs.Records.{HasText, record_text, records_text};
 
+use crate::legs::add_legs;
+use crate::text::{add_record, new_writer, send, text_of};
 use crate::{PointAnswer, PrintStop};
-use csv::{Error, Writer, WriterBuilder};
+use csv::{Error, Writer};
 use itoa::Buffer;
-use move_files::{Sink, WriteFail, write_whole};
-use move_model::{Finding, TimeText, write_time};
+use move_files::Sink;
+use move_model::{Finding, Network, TimeText, write_time};
 use std::alloc::Global;
-
-// Writes one record behind the text so far.
-#[tactic(auto, unfolding(crate::specs::Records::record_text))]
-fn add_record(out: &mut Writer<Vec<u8>>, fields: &[&[u8]]) -> Result<(), Error>
-    ensures { OnOk result ((text : List ℕ) → HasText out.old text → HasText out.new (text ++ record_text (map (λ f. f.now) fields.now))) }
-{
-    out.write_fields(fields)
-}
 
 #[tactic(auto, unfolding(crate::specs::Records::header_record))]
 fn add_header(out: &mut Writer<Vec<u8>>) -> Result<(), Error>
@@ -40,7 +35,8 @@ fn add_pair(
     answer: &PointAnswer,
     finding: &Finding,
 ) -> Result<(), Error>
-    ensures { OnOk result ((text : List ℕ) → HasText out.old text → HasText out.new (text ++ record_text (spec.pair_record number journey answer.now finding.now))) }
+    ensures row { OnOk result ((text : List ℕ) → HasText out.old text → HasText out.new (text ++ record_text (spec.pair_record number journey answer.now finding.now))) }
+    ensures small { finding.now.pair.arrive < 2 ^ 64 }
 {
     let mut query_digits = Buffer::new();
     let mut journey_digits = Buffer::new();
@@ -96,43 +92,55 @@ fn add_none(out: &mut Writer<Vec<u8>>, number: u32, answer: &PointAnswer) -> Res
     )
 }
 
-// Writes the rows of the pairs of an answer.
-fn add_pairs(out: &mut Writer<Vec<u8>>, number: u32, answer: &PointAnswer) -> Result<(), Error>
-    ensures { OnOk result ((text : List ℕ) → HasText out.old text → HasText out.new (text ++ records_text (spec.pairs_from number 1 answer.now answer.now.found))) }
+// Writes the row of a pair and the legs of its journey.
+fn add_finding(
+    out: &mut Writer<Vec<u8>>,
+    number: u32,
+    journey: usize,
+    network: &Network,
+    answer: &PointAnswer,
+    finding: &Finding,
+) -> Result<(), Error>
+    ensures { OnOk result (IsPrintable network.now finding.now → (text : List ℕ) → HasText out.old text
+        → HasText out.new (text ++ records_text (spec.finding_records number journey network.now answer.now finding.now))) }
+{
+    add_pair(out, number, journey, answer, finding)?;
+    add_legs(out, number, journey, network, &finding.journey)
+}
+
+// Writes the rows of the findings of an answer.
+fn add_findings(
+    out: &mut Writer<Vec<u8>>,
+    number: u32,
+    network: &Network,
+    answer: &PointAnswer,
+) -> Result<(), Error>
+    ensures { OnOk result (All (IsPrintable network.now) answer.now.found → (text : List ℕ) → HasText out.old text
+        → HasText out.new (text ++ records_text (spec.findings_from number 1 network.now answer.now answer.now.found))) }
 {
     let mut journey = 1usize;
     for finding in answer.found.as_slice() {
-        add_pair(out, number, journey, answer, finding)?;
+        add_finding(out, number, journey, network, answer, finding)?;
         journey += 1;
     }
     Ok(())
 }
 
-// Writes the rows of the pairs of an answer, or its row of kind none.
-fn add_point(out: &mut Writer<Vec<u8>>, number: u32, answer: &PointAnswer) -> Result<(), Error>
-    ensures { OnOk result ((text : List ℕ) → HasText out.old text → HasText out.new (text ++ records_text (spec.point_records number answer.now answer.now.found))) }
+// Writes the rows of the findings of an answer, or its row of kind none.
+fn add_point(
+    out: &mut Writer<Vec<u8>>,
+    number: u32,
+    network: &Network,
+    answer: &PointAnswer,
+) -> Result<(), Error>
+    ensures { OnOk result (All (IsPrintable network.now) answer.now.found → (text : List ℕ) → HasText out.old text
+        → HasText out.new (text ++ records_text (spec.point_records number network.now answer.now answer.now.found))) }
 {
     if answer.found.is_empty() {
         add_none(out, number, answer)
     } else {
-        add_pairs(out, number, answer)
+        add_findings(out, number, network, answer)
     }
-}
-
-// The bytes that a writer over memory has taken.
-fn text_of(out: Writer<Vec<u8>>) -> Result<Vec<u8>, Error>
-    ensures { (text : List ℕ) → HasText out text → IfOk result (λ bytes. bytes.items ≡ text) }
-{
-    match out.into_inner() {
-        Ok(text) => Ok(text),
-        Err(error) => Err(error.into_error()),
-    }
-}
-
-fn new_writer(alloc: Global) -> Writer<Vec<u8>>
-    ensures { HasText result [] }
-{
-    WriterBuilder::new().from_writer(Vec::new(alloc))
 }
 
 fn header_text(alloc: Global) -> Result<Vec<u8>, Error>
@@ -143,29 +151,18 @@ fn header_text(alloc: Global) -> Result<Vec<u8>, Error>
     text_of(out)
 }
 
-fn point_text(alloc: Global, number: u32, answer: &PointAnswer) -> Result<Vec<u8>, Error>
-    ensures { IfOk result (λ text. text.items ≡ records_text (spec.point_records number answer.now answer.now.found)) }
+fn point_text(
+    alloc: Global,
+    number: u32,
+    network: &Network,
+    answer: &PointAnswer,
+) -> Result<Vec<u8>, Error>
+    ensures { All (IsPrintable network.now) answer.now.found
+        → IfOk result (λ text. text.items ≡ records_text (spec.point_records number network.now answer.now answer.now.found)) }
 {
     let mut out = new_writer(alloc);
-    add_point(&mut out, number, answer)?;
+    add_point(&mut out, number, network, answer)?;
     text_of(out)
-}
-
-// Sends a text, if there was memory to make it.
-fn send<S: Sink>(text: Result<Vec<u8>, Error>, out: &mut S) -> Result<(), PrintStop>
-    ensures ok { S.tells → (bytes : List ℕ) → IfOk text (λ made. made.items ≡ bytes) → OnOk result (S.sent out.new ≡ S.sent out.old ++ bytes) }
-    ensures err { S.tells → (bytes : List ℕ) → IfOk text (λ made. made.items ≡ bytes) → OnErr result (SendsPrefix (S.sent out.old) bytes (S.sent out.new)) }
-    ensures fault { IsErrOf result PrintStop.WriteFault → Rose (S.faults out.old) (S.faults out.new) }
-    ensures counts { (S.faults out.old ≤ S.faults out.new) × (S.wants out.old ≤ S.wants out.new) }
-{
-    let Ok(text) = text else {
-        return Err(PrintStop::NoMemory);
-    };
-    match write_whole(out, &text) {
-        Ok(()) => Ok(()),
-        Err(WriteFail::Failed) => Err(PrintStop::WriteFault),
-        Err(WriteFail::NoMemory) => Err(PrintStop::NoMemory),
-    }
 }
 
 /// Sends the header row.
@@ -178,17 +175,22 @@ pub fn write_header<S: Sink>(alloc: Global, out: &mut S) -> Result<(), PrintStop
     send(header_text(alloc), out)
 }
 
-/// Sends the rows of the pairs of query `number`, or its row of kind none.
-pub fn write_pairs<S: Sink>(
+/// Sends the rows of query `number`: each pair with the legs of its journey below it, or one row of kind none. Their text
+/// is that of the records where each journey is one of the network.
+pub fn write_point<S: Sink>(
     alloc: Global,
+    network: &Network,
     number: u32,
     answer: &PointAnswer,
     out: &mut S,
 ) -> Result<(), PrintStop>
-    ensures ok { S.tells → OnOk result (S.sent out.new ≡ S.sent out.old ++ records_text (spec.point_records number answer.now answer.now.found)) }
-    ensures err { S.tells → OnErr result (SendsPrefix (S.sent out.old) (records_text (spec.point_records number answer.now answer.now.found)) (S.sent out.new)) }
+    ensures ok { S.tells → All (IsPrintable network.now) answer.now.found
+        → OnOk result (S.sent out.new ≡ S.sent out.old ++ records_text (spec.point_records number network.now answer.now answer.now.found)) }
+    ensures err { S.tells → All (IsPrintable network.now) answer.now.found
+        → OnErr result (SendsPrefix (S.sent out.old) (records_text (spec.point_records number network.now answer.now answer.now.found)) (S.sent out.new)) }
+    ensures grows { S.tells → (more : List ℕ) × (S.sent out.new ≡ S.sent out.old ++ more) }
     ensures fault { IsErrOf result PrintStop.WriteFault → Rose (S.faults out.old) (S.faults out.new) }
     ensures counts { (S.faults out.old ≤ S.faults out.new) × (S.wants out.old ≤ S.wants out.new) }
 {
-    send(point_text(alloc, number, answer), out)
+    send(point_text(alloc, number, network, answer), out)
 }

@@ -3,9 +3,9 @@ use Rattle.move_model.specs.Time.{time_text}
 use Rattle.journey_print.specs.Records.{pair_record}
 use Rattle.journey_print.proofs.rows.add_pair.Goals as goal
 
-pub returns : goal.returns
+pub returns-clause-row : goal.returns-clause-row
 unfolding pair_record
-returns c =
+returns-clause-row c =
     rw (
       c.as_bytes.ensures.value ∙ c.format.ensures.text,
       c.as_bytes-2.ensures.value ∙ c.format-2.ensures.text,
