@@ -1,10 +1,56 @@
--- What an answer sends.
---     Grows old new              behind the old bytes stand further ones, or none
---     SendsRows old new          behind the old bytes stand the header row and further bytes, or none
---     SendsPartOfRows old new    that, or no more than a part of the header row
-use Rattle.std.specs.Prelude.{◌≡◌, ◌++◌, ◌⊎◌, ℕ, List}
+-- The rows of queries, and what an answer sends.
+--     IsAt query                       the query asks for one departure second
+--     AreRows n q query text           the text of the rows of query number q
+--     AreRowsFrom n q queries text     the text of the rows of queries that are numbered from q on
+--     IsPrinted n queries text         the text of the header and of the rows of all queries, in their order
+--     PrintsAll n queries old new      behind the old bytes stands such a text
+--     PrintsPart n queries old new     behind the old bytes stands a prefix of such a text for the first queries
+--     Grows old new                    behind the old bytes stand further ones, or none
+--     SendsRows old new                behind the old bytes stand the header row and further bytes, or none
+--     SendsPartOfRows old new          that, or no more than a part of the header row
+use Rattle.std.specs.Prelude.{◌≡◌, ◌+◌, ◌++◌, ◌⊎◌, ℕ, List, [], ◌∷◌, take}
+use Rattle.move_model.specs.declared.network.Network.{Network}
+use Rattle.move_model.specs.declared.journey.Finding.{Finding}
+use Rattle.move_model.specs.declared.query.Query.{Query}
+use Rattle.move_model.specs.declared.query.Query.TheVariants as query
+use Rattle.move_model.specs.Found.{IsPointAnswer}
 use Rattle.move_files.specs.Outside.{SendsPrefix}
-use Rattle.journey_print.specs.Records.{header_record, record_text}
+use Rattle.journey_print.specs.Records.{header_record, point_records, record_text, records_text}
+
+abbrev pub IsAt : Query → Type 0
+IsAt (query.At from to depart limit) = Unit {0}
+IsAt (query.Range from to first last limit) = ⊥
+
+-- The pairs are the Pareto set, each with a journey that attains it; which journey is free. The rows of a range are not
+-- told yet.
+abbrev pub AreRows : Network → ℕ → Query → List ℕ → Type 0
+AreRows n number (query.At from to depart limit) text =
+    (found : List Finding) × IsPointAnswer n from.node depart to.node limit found
+    × (text ≡ records_text (point_records number n (record { from = from; to = to; depart = depart; found = found }) found))
+AreRows n number (query.Range from to first last limit) text = ⊥
+
+pub data AreRowsFrom (n : Network) : ℕ → List Query → List ℕ → Type 0 where
+  none : {number : ℕ} → AreRowsFrom n number [] []
+  next : {number : ℕ} {query : Query} {queries : List Query} (rows rest : List ℕ)
+      → AreRows n number query rows → AreRowsFrom n (number + 1) queries rest → AreRowsFrom n number (query ∷ queries) (rows ++ rest)
+
+-- the queries are numbered from 1
+pub record IsPrinted (n : Network) (queries : List Query) (text : List ℕ) : Type 0 where
+  pub rows : List ℕ
+  pub are_rows : AreRowsFrom n 1 queries rows
+  pub behind_header : text ≡ record_text header_record ++ rows
+
+pub record PrintsAll (n : Network) (queries : List Query) (old new : List ℕ) : Type 0 where
+  pub text : List ℕ
+  pub printed : IsPrinted n queries text
+  pub sent : new ≡ old ++ text
+
+-- so nothing is said of the queries that were not come to
+pub record PrintsPart (n : Network) (queries : List Query) (old new : List ℕ) : Type 0 where
+  pub many : ℕ
+  pub text : List ℕ
+  pub printed : IsPrinted n (take many queries) text
+  pub sent : SendsPrefix old text new
 
 abbrev pub Grows : List ℕ → List ℕ → Type 0
 Grows old new = (more : List ℕ) × (new ≡ old ++ more)

@@ -1,10 +1,15 @@
 // Answers to queries.
-ghost use Rattle.std.specs.Prelude.{◌≡◌, ◌<◌, ◌≤◌, ◌-◌, ◌^◌, ◌↔◌, length, IfOk, OnOk, OnErr, IsErrOf};
-ghost use Rattle.move_files.specs.Outside.{Rose};
-ghost use Rattle.plan_core.specs.Answer.{Grows, SendsRows, SendsPartOfRows};
+ghost use Rattle.std.specs.Prelude.{◌≡◌, ◌++◌, ◌<◌, ◌≤◌, ◌-◌, ◌^◌, ◌↔◌, All, length, IfOk, OnOk, OnErr, IsErrOf};
+ghost use Rattle.move_model.specs.Network.{IsNetwork, IsNumbered};
+ghost use Rattle.move_model.specs.Found.{IsPointAnswer};
+ghost use Rattle.move_files.specs.Outside.{Rose, SendsPrefix};
+ghost use Rattle.journey_print.specs.Legs.{IsPrintable};
+ghost use Rattle.journey_print.specs.Records.{point_records, records_text};
+ghost use Rattle.plan_core.specs.Answer.{IsAt, PrintsAll, PrintsPart, Grows, SendsRows, SendsPartOfRows};
+ghost use Rattle.plan_core.specs.Sent.{SendsQuery, SendsPartOfQuery, SendsQueries, SendsFirst};
 
 use crate::Compiled;
-use journey_print::{PointAnswer, PrintStop, write_header, write_pairs};
+use journey_print::{PointAnswer, PrintStop, write_header, write_point};
 use move_files::Sink;
 use move_model::{List, Network, NoMemory, Place, Queries, Query};
 use plain_search::point_findings;
@@ -37,7 +42,11 @@ fn answer_point(
     to: &Place,
     depart: u32,
     limit: u8,
-) -> Result<PointAnswer, NoMemory> {
+) -> Result<PointAnswer, NoMemory>
+    ensures asked { IfOk result (λ answer. answer ≡ record { from = from.now; to = to.now; depart = depart; found = answer.found }) }
+    ensures found { IfOk result (λ answer. IsNetwork network.now → IsNumbered network.now
+        → IsPointAnswer network.now from.now.node depart to.now.node limit answer.found) }
+{
     let found = point_findings(alloc, network, from.node, to.node, depart, limit)?;
     Ok(PointAnswer {
         from: copy_of(alloc, from)?,
@@ -60,15 +69,20 @@ fn stop_of(stop: PrintStop) -> AnswerStop
 // Sends the rows of an answer.
 fn send_rows<S: Sink>(
     alloc: Global,
+    network: &Network,
     number: u32,
     answer: &PointAnswer,
     out: &mut S,
 ) -> Result<(), AnswerStop>
+    ensures ok { S.tells → All (IsPrintable network.now) answer.now.found
+        → OnOk result (S.sent out.new ≡ S.sent out.old ++ records_text (point_records number network.now answer.now answer.now.found)) }
+    ensures err { S.tells → All (IsPrintable network.now) answer.now.found
+        → OnErr result (SendsPrefix (S.sent out.old) (records_text (point_records number network.now answer.now answer.now.found)) (S.sent out.new)) }
     ensures grows { S.tells → Grows (S.sent out.old) (S.sent out.new) }
     ensures fault { IsErrOf result AnswerStop.WriteFault → Rose (S.faults out.old) (S.faults out.new) }
     ensures counts { (S.faults out.old ≤ S.faults out.new) × (S.wants out.old ≤ S.wants out.new) }
 {
-    match write_pairs(alloc, number, answer, out) {
+    match write_point(alloc, network, number, answer, out) {
         Ok(()) => Ok(()),
         Err(stop) => Err(stop_of(stop)),
     }
@@ -82,6 +96,10 @@ fn send_answer<S: Sink>(
     query: &Query,
     out: &mut S,
 ) -> Result<(), AnswerStop>
+    ensures ok { S.tells → IsNetwork network.now → IsNumbered network.now → IsAt query.now
+        → OnOk result (SendsQuery network.now number query.now (S.sent out.old) (S.sent out.new)) }
+    ensures err { S.tells → IsNetwork network.now → IsNumbered network.now → IsAt query.now
+        → OnErr result (SendsPartOfQuery network.now number query.now (S.sent out.old) (S.sent out.new)) }
     ensures grows { S.tells → Grows (S.sent out.old) (S.sent out.new) }
     ensures fault { IsErrOf result AnswerStop.WriteFault → Rose (S.faults out.old) (S.faults out.new) }
     ensures counts { (S.faults out.old ≤ S.faults out.new) × (S.wants out.old ≤ S.wants out.new) }
@@ -93,7 +111,7 @@ fn send_answer<S: Sink>(
             depart,
             limit,
         } => match answer_point(alloc, network, from, to, *depart, *limit) {
-            Ok(answer) => send_rows(alloc, number, &answer, out),
+            Ok(answer) => send_rows(alloc, network, number, &answer, out),
             Err(_) => Err(AnswerStop::NoMemory),
         },
         Query::Range { .. } => Ok(()),
@@ -108,6 +126,10 @@ fn send_answers<S: Sink>(
     out: &mut S,
 ) -> Result<(), AnswerStop>
     requires { length queries.now < 2 ^ 32 - 1 }
+    ensures ok { S.tells → OnOk result (IsNetwork network.now → IsNumbered network.now → All IsAt queries.now
+        → SendsQueries network.now queries.now (S.sent out.old) (S.sent out.new)) }
+    ensures err { S.tells → OnErr result (IsNetwork network.now → IsNumbered network.now → All IsAt queries.now
+        → SendsFirst network.now queries.now (S.sent out.old) (S.sent out.new)) }
     ensures grows { S.tells → Grows (S.sent out.old) (S.sent out.new) }
     ensures fault { IsErrOf result AnswerStop.WriteFault → Rose (S.faults out.old) (S.faults out.new) }
     ensures counts { (S.faults out.old ≤ S.faults out.new) × (S.wants out.old ≤ S.wants out.new) }
@@ -120,8 +142,8 @@ fn send_answers<S: Sink>(
     Ok(())
 }
 
-/// Sends the header row, and the rows of all queries in their order. A counter is not ticked until what it
-/// counts is built.
+/// Sends the header row, and the rows of all queries in their order, numbered from 1. A counter is not ticked until what
+/// it counts is built.
 pub fn answer<S: Sink, L: Ledger, M: Ledger>(
     alloc: Global,
     compiled: &Compiled,
@@ -131,8 +153,18 @@ pub fn answer<S: Sink, L: Ledger, M: Ledger>(
     _opens: &mut Steps<M>,
 ) -> Result<(), AnswerStop>
     requires { length queries.now < 2 ^ 32 - 1 }
+    // Of a network, the rows are those of the answers to its queries; after a stop they are a prefix of the rows of the
+    // first queries.
+    ensures rows { S.tells → OnOk result (IsNetwork compiled.now.network → IsNumbered compiled.now.network → All IsAt queries.now
+        → PrintsAll compiled.now.network queries.now (S.sent out.old) (S.sent out.new)) }
+    ensures part { S.tells → OnErr result (IsNetwork compiled.now.network → IsNumbered compiled.now.network → All IsAt queries.now
+        → PrintsPart compiled.now.network queries.now (S.sent out.old) (S.sent out.new)) }
+
+    // Of every value, the header row comes first.
     ensures ok { S.tells → OnOk result (SendsRows (S.sent out.old) (S.sent out.new)) }
     ensures err { S.tells → OnErr result (SendsPartOfRows (S.sent out.old) (S.sent out.new)) }
+
+    // A write fault comes only where the faults of the sink rose.
     ensures fault { IsErrOf result AnswerStop.WriteFault → Rose (S.faults out.old) (S.faults out.new) }
     ensures counts { (S.faults out.old ≤ S.faults out.new) × (S.wants out.old ≤ S.wants out.new) }
 {
