@@ -1,0 +1,5 @@
+pub mod KeyLemmas
+pub mod LevelLemmas
+pub mod RisingLemmas
+pub mod PlaceLemmas
+pub mod NearestLemmas

@@ -1,0 +1,4 @@
+pub mod Nearest
+pub mod Cell
+pub mod Place
+pub mod Levels

@@ -1,0 +1,123 @@
+// The grids, from the finest, with a cell for each point, to the coarsest, with one cell.
+ghost use Rattle.std.specs.Prelude.{◌≡◌, ◌≤◌, ◌<◌, ◌+◌, ◌-◌, ◌*◌, ◌/◌, ◌^◌, ℕ, All, IfOk, length, slice_index_or};
+ghost use Rattle.stop_match.specs.declared.point.Point.{Point};
+ghost use Rattle.stop_match.specs.declared.cell.Cell.{Cell};
+ghost use Rattle.stop_match.specs.Cell.{Within, AreParents};
+ghost use Rattle.stop_match.specs.Place.{IsPlace, AreAllPlaces, AreCellsOf, ArePointCells};
+ghost use Rattle.stop_match.specs.Levels.{AreLevelsOf};
+
+use crate::cell::Cell;
+use crate::point::Point;
+use move_model::List;
+use std::alloc::{AllocError, Global};
+
+// The cells of a grid.
+pub(crate) type Level = List<Cell>;
+
+// Every second bit of a number is one of the bits of `half`.
+fn spread(half: u32) -> u64 {
+    let mut bits = u64::from(half);
+    bits = (bits | (bits << 16)) & 0x0000_ffff_0000_ffff;
+    bits = (bits | (bits << 8)) & 0x00ff_00ff_00ff_00ff;
+    bits = (bits | (bits << 4)) & 0x0f0f_0f0f_0f0f_0f0f;
+    bits = (bits | (bits << 2)) & 0x3333_3333_3333_3333;
+    (bits | (bits << 1)) & 0x5555_5555_5555_5555
+}
+
+// The place of a point on the curve that goes through each square of a grid before it leaves it (Z-order).
+fn z_order(point: &Point) -> u64 {
+    let north = point.lat.cast_unsigned() ^ 0x8000_0000;
+    let east = point.lon.cast_unsigned() ^ 0x8000_0000;
+    (spread(north) << 1) | spread(east)
+}
+
+// The number of a vertex, with the place of its point on the curve.
+#[derive(Clone, Copy, Debug)]
+pub(crate) struct Place {
+    order: u64,
+    number: u32,
+}
+
+// The places of all vertices, by number.
+fn places(alloc: Global, points: &[Point]) -> Result<Vec<Place>, AllocError>
+    requires { length points.now < 2 ^ 32 }
+    ensures { IfOk result (λ places. AreAllPlaces places.items (length points.now)) }
+{
+    let mut places = Vec::with_capacity(alloc, points.len())?;
+    let mut number = 0u32;
+    for point in points {
+        number += 1;
+        places.push(Place {
+            order: z_order(point),
+            number,
+        })?;
+    }
+    Ok(places)
+}
+
+// The cells of the points, in the order of the places.
+fn point_cells(alloc: Global, points: &[Point], places: &[Place]) -> Result<Level, AllocError>
+    requires { All (λ place. IsPlace place (length points.now)) places.now }
+    ensures { IfOk result (λ cells. AreCellsOf cells places.now points.now) }
+{
+    let mut cells = Vec::with_capacity(alloc, places.len())?;
+    for place in places {
+        let point = points[place.number as usize - 1];
+        cells.push(Cell::of(point, place.number))?;
+    }
+    Ok(List::from_vec(cells))
+}
+
+// The finest grid: a cell for each point, along the curve.
+fn finest(alloc: Global, points: &[Point]) -> Result<Level, AllocError>
+    requires { length points.now < 2 ^ 32 }
+    ensures { IfOk result (λ cells. ArePointCells cells points.now) }
+{
+    let mut places = places(alloc, points)?;
+    places.sort_unstable_by_key(|place| place.order);
+    point_cells(alloc, points, places.as_slice())
+}
+
+// The cell of the next coarser grid that holds eight cells, or as many as are left.
+fn joined_at(fine: &[Cell], index: usize) -> Cell
+    requires { index * 8 < length fine.now }
+    ensures { (c : ℕ) (d : Cell) → c < length fine.now → c / 8 ≡ index → Within (slice_index_or fine.now c d) result }
+{
+    let begin = index * 8;
+    let mut whole = fine[begin];
+    for c in begin..fine.len().min(begin + 8) {
+        whole = whole.joined(&fine[c]);
+    }
+    whole
+}
+
+// The next coarser grid.
+fn parents(alloc: Global, fine: &[Cell]) -> Result<Level, AllocError>
+    requires { 0 < length fine.now }
+    ensures parents { IfOk result (AreParents fine.now) }
+    ensures fewer { IfOk result (λ coarse. length coarse ≡ (length fine.now - 1) / 8 + 1) }
+{
+    let count = (fine.len() - 1) / 8 + 1;
+    let mut coarse = Vec::with_capacity(alloc, count)?;
+    for index in 0..count {
+        coarse.push(joined_at(fine, index))?;
+    }
+    Ok(List::from_vec(coarse))
+}
+
+// All grids of some points, from the finest.
+pub(crate) fn levels(alloc: Global, points: &[Point]) -> Result<List<Level>, AllocError>
+    requires some { 0 < length points.now }
+    requires few { length points.now < 2 ^ 32 }
+    ensures { IfOk result (λ levels. AreLevelsOf levels points.now) }
+{
+    let mut last = finest(alloc, points)?;
+    let mut levels = List::new(alloc);
+    while last.len() > 1 {
+        let next = parents(alloc, last.as_slice())?;
+        levels.push(last)?;
+        last = next;
+    }
+    levels.push(last)?;
+    Ok(levels)
+}

@@ -1,0 +1,15 @@
+//! The vertex of a street graph that is nearest to a place on the earth.
+//!
+//! `nearest` finds the least `(1000 * dlat)^2 + (scale * dlon)^2` over all points, in millionths of a degree, and of
+//! several vertices as near the one with the least number. It looks in a grid whose cells hold up to eight cells of
+//! the next finer grid, down to single points, and passes over each cell that can hold no better point.
+#![tactic(auto)]
+
+mod cell;
+mod grid;
+mod level;
+mod point;
+mod target;
+
+pub use grid::{Grid, nearest};
+pub use point::{Point, Points};
