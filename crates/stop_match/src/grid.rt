@@ -1,10 +1,12 @@
 // The grid over the points of a street graph.
 ghost use Rattle.std.specs.Prelude.{◌≡◌, ◌≤◌, ◌<◌, ◌+◌, ◌-◌, ◌*◌, ◌^◌, ◌⊎◌, ℕ, IfOk, length};
 ghost use Rattle.stop_match.specs.Nearest.{IsNearest};
+ghost use Rattle.stop_match.specs.Levels.{AreLevelsOf};
 ghost use Rattle.stop_match.specs.Cell.{IsNoLater, AreLevels, cell, cells, cell_at, key_of};
 
 use crate::cell::Cell;
 use crate::level::{Level, levels};
+use crate::order::Order;
 use crate::point::Points;
 use crate::target::{Key, Target};
 use move_model::{List, NoMemory, NodeNo};
@@ -18,7 +20,8 @@ const MAX_VERTICES: usize = 4_294_967_295;
 #[derive(Debug, Drop)]
 pub struct Grid {
     points: Points,
-    levels: List<Level>,
+    squares: List<Level>,
+    strips: List<Level>,
 }
 
 impl Model for Grid {
@@ -30,7 +33,7 @@ impl Model for Grid {
 
     ghost view = { λ grid. grid.points };
 
-    ghost invariant = { λ grid. AreLevelsOf grid.levels grid.points };
+    ghost invariant = { λ grid. AreLevelsOf grid.squares grid.points × AreLevelsOf grid.strips grid.points };
 }
 
 impl Grid {
@@ -43,9 +46,25 @@ impl Grid {
         if points.len() > MAX_VERTICES {
             return Err(AllocError);
         }
-        let levels = levels(alloc, points.as_slice())?;
+        let squares = levels(alloc, points.as_slice(), Order::Squares)?;
+        let strips = levels(alloc, points.as_slice(), Order::Strips)?;
         let points = Points::from_slice(alloc, points.as_slice())?;
-        Ok(Grid { points, levels })
+        Ok(Grid {
+            points,
+            squares,
+            strips,
+        })
+    }
+
+    // The grids to look in: where longitudes count nothing, a strip holds fewer near points than a square does.
+    fn levels(&self, scale: u32) -> &[Level]
+        ensures { AreLevelsOf result.now self.now }
+    {
+        if scale == 0 {
+            self.strips.as_slice()
+        } else {
+            self.squares.as_slice()
+        }
     }
 }
 
@@ -119,7 +138,7 @@ pub fn nearest(grid: &Grid, lat: i32, lon: i32, scale: u32) -> NodeNo
     ensures { IsNearest grid.now lat lon scale result }
 {
     let target = Target { lat, lon, scale };
-    let levels = grid.levels.as_slice();
+    let levels = grid.levels(scale);
     let guess = first_guess(levels, &target);
     let best = search(levels, levels.len() - 1, 0, &target, guess);
     NodeNo(best.number)

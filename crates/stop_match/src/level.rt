@@ -7,6 +7,7 @@ ghost use Rattle.stop_match.specs.Place.{IsPlace, AreAllPlaces, AreCellsOf, AreP
 ghost use Rattle.stop_match.specs.Levels.{AreLevelsOf};
 
 use crate::cell::Cell;
+use crate::order::Order;
 use crate::point::Point;
 use move_model::List;
 use std::alloc::{AllocError, Global};
@@ -14,24 +15,7 @@ use std::alloc::{AllocError, Global};
 // The cells of a grid.
 pub(crate) type Level = List<Cell>;
 
-// Every second bit of a number is one of the bits of `half`.
-fn spread(half: u32) -> u64 {
-    let mut bits = u64::from(half);
-    bits = (bits | (bits << 16)) & 0x0000_ffff_0000_ffff;
-    bits = (bits | (bits << 8)) & 0x00ff_00ff_00ff_00ff;
-    bits = (bits | (bits << 4)) & 0x0f0f_0f0f_0f0f_0f0f;
-    bits = (bits | (bits << 2)) & 0x3333_3333_3333_3333;
-    (bits | (bits << 1)) & 0x5555_5555_5555_5555
-}
-
-// The place of a point on the curve that goes through each square of a grid before it leaves it (Z-order).
-fn z_order(point: &Point) -> u64 {
-    let north = point.lat.cast_unsigned() ^ 0x8000_0000;
-    let east = point.lon.cast_unsigned() ^ 0x8000_0000;
-    (spread(north) << 1) | spread(east)
-}
-
-// The number of a vertex, with the place of its point on the curve.
+// The number of a vertex, with its place in the order of a grid.
 #[derive(Clone, Copy, Debug)]
 pub(crate) struct Place {
     order: u64,
@@ -39,7 +23,7 @@ pub(crate) struct Place {
 }
 
 // The places of all vertices, by number.
-fn places(alloc: Global, points: &[Point]) -> Result<Vec<Place>, AllocError>
+fn places(alloc: Global, points: &[Point], order: Order) -> Result<Vec<Place>, AllocError>
     requires { length points.now < 2 ^ 32 }
     ensures { IfOk result (λ places. AreAllPlaces places.items (length points.now)) }
 {
@@ -48,7 +32,7 @@ fn places(alloc: Global, points: &[Point]) -> Result<Vec<Place>, AllocError>
     for point in points {
         number += 1;
         places.push(Place {
-            order: z_order(point),
+            order: order.of(point, number),
             number,
         })?;
     }
@@ -68,12 +52,12 @@ fn point_cells(alloc: Global, points: &[Point], places: &[Place]) -> Result<Leve
     Ok(List::from_vec(cells))
 }
 
-// The finest grid: a cell for each point, along the curve.
-fn finest(alloc: Global, points: &[Point]) -> Result<Level, AllocError>
+// The finest grid: a cell for each point, in this order.
+fn finest(alloc: Global, points: &[Point], order: Order) -> Result<Level, AllocError>
     requires { length points.now < 2 ^ 32 }
     ensures { IfOk result (λ cells. ArePointCells cells points.now) }
 {
-    let mut places = places(alloc, points)?;
+    let mut places = places(alloc, points, order)?;
     places.sort_unstable_by_key(|place| place.order);
     point_cells(alloc, points, places.as_slice())
 }
@@ -105,13 +89,17 @@ fn parents(alloc: Global, fine: &[Cell]) -> Result<Level, AllocError>
     Ok(List::from_vec(coarse))
 }
 
-// All grids of some points, from the finest.
-pub(crate) fn levels(alloc: Global, points: &[Point]) -> Result<List<Level>, AllocError>
+// All grids of some points, from the finest, which has them in this order.
+pub(crate) fn levels(
+    alloc: Global,
+    points: &[Point],
+    order: Order,
+) -> Result<List<Level>, AllocError>
     requires some { 0 < length points.now }
     requires few { length points.now < 2 ^ 32 }
     ensures { IfOk result (λ levels. AreLevelsOf levels points.now) }
 {
-    let mut last = finest(alloc, points)?;
+    let mut last = finest(alloc, points, order)?;
     let mut levels = List::new(alloc);
     while last.len() > 1 {
         let next = parents(alloc, last.as_slice())?;

@@ -19,7 +19,7 @@ pub returns-clause-done : goal.returns-clause-done
 returns-clause-done t c = λ p lt at.
     let levels = c.args.levels.now in
     let some : 0 < c.args.depth = omega arith in
-    let deep : c.args.depth - 1 < _ = omega (arith, c.requires.depth) in
+    let deep : c.args.depth - 1 < length levels = omega (arith, c.requires.depth) in
     let up = cell_at-pred c.args.depth p some in
     let within = cell_at-lt levels p c.requires.levels lt (c.args.depth - 1) deep in
     let e = cells-read levels (c.args.depth - 1) c.index-levels-depth-2.result deep c.index-levels-depth-2.is in
