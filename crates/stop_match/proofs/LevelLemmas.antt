@@ -1,12 +1,12 @@
 -- The cells above a point.
-use Rattle.std.proofs.Common.{◌≡◌, ◌∙◌, ◌+◌, ◌*◌, ◌/◌, ◌%◌, ◌-◌, ◌<◌, ◌≤◌, ◌⊎◌, ℕ, zero, suc, ℤ, pos, ◌≤ℤ◌, List, [], ◌∷◌, ◌++◌, length, get_or, refl, sym, ap, inl, inr, arith, add-one}
+use Rattle.std.proofs.Common.{◌≡◌, ◌∙◌, ◌+◌, ◌/◌, ◌-◌, ◌<◌, ℕ, zero, suc, List, [], ◌∷◌, ◌++◌, length, get_or, refl, inl, inr, arith, add-one}
 use Rattle.std.proofs.lemmas.Bool.{cases_lt}
 use Rattle.std.proofs.lemmas.Int.{ints}
-use Rattle.std.proofs.lemmas.List.{get_or_append_left, get_or_push, get_or_default, length_push}
+use Rattle.std.proofs.lemmas.List.{get_or_append_left, get_or_push, get_or_default}
 use Rattle.stop_match.specs.declared.cell.Cell.{Cell}
 use Rattle.stop_match.specs.declared.target.Key.{Key}
 use Rattle.stop_match.specs.declared.target.Target.{Target}
-use Rattle.stop_match.specs.Cell.{Within, no_cell, IsPoint, cell_at, cells, cell, AreParents, AreLevels, key_of, IsBefore, IsNoLater}
+use Rattle.stop_match.specs.Cell.{Within, no_cell, cell_at, cells, cell, AreParents, AreLevels, key_of, IsBefore, IsNoLater}
 use Rattle.stop_match.proofs.KeyLemmas.{key-le, IsNoLater-trans, IsNoLater-not, IsNoLater-parts}
 
 pub Within-refl : (c : Cell) → Within c c

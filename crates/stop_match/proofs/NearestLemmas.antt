@@ -1,15 +1,12 @@
 -- The least key is that of the nearest vertex.
-use Rattle.std.proofs.Common.{◌≡◌, ◌∙◌, ◌+◌, ◌-◌, ◌<◌, ◌≤◌, ◌⊎◌, ℕ, ℤ, zero, suc, List, [], ◌∷◌, ◌++◌, length, get_or, Some, refl, sym, ap, inl, inr, arith}
-use Rattle.std.specs.Prelude.{slice_get}
-use Rattle.std.proofs.lemmas.Bool.{cases_lt}
-use Rattle.std.proofs.lemmas.List.{get_or_append_left, get_or_push, length_push}
+use Rattle.std.proofs.Common.{◌≡◌, ◌∙◌, ◌+◌, ◌-◌, ◌<◌, ◌⊎◌, ℕ, List, length, sym, ap, inl, inr, arith}
 use Rattle.move_model.specs.declared.network.NodeNo.{NodeNo}
 use Rattle.stop_match.specs.declared.point.Point.{Point}
 use Rattle.stop_match.specs.declared.cell.Cell.{Cell}
 use Rattle.stop_match.specs.declared.target.Key.{Key}
 use Rattle.stop_match.specs.declared.target.Target.{Target}
 use Rattle.stop_match.specs.Nearest.{square_distance, HasPoint, IsNearest}
-use Rattle.stop_match.specs.Cell.{IsPoint, no_cell, cell_of, cell_at, cells, cell, AreParents, AreLevels, key_of, IsNoLater}
+use Rattle.stop_match.specs.Cell.{no_cell, cell_at, cells, cell, AreLevels, key_of, IsNoLater}
 use Rattle.stop_match.specs.Levels.{AreLevelsOf}
 use Rattle.stop_match.proofs.KeyLemmas.{key-point, IsNoLater-le, IsNoLater-lt}
 use Rattle.stop_match.proofs.LevelLemmas.{cell_at-lt}

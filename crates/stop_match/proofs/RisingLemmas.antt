@@ -1,11 +1,11 @@
 -- Grids, one after another.
-use Rattle.std.proofs.Common.{◌≡◌, ◌∙◌, ◌+◌, ◌-◌, ◌<◌, ◌≤◌, ◌⊎◌, ℕ, zero, suc, List, [], ◌∷◌, ◌++◌, length, get_or, refl, sym, ap, subst, inl, inr, arith, pos}
+use Rattle.std.proofs.Common.{◌≡◌, ◌+◌, ◌-◌, ◌<◌, ◌≤◌, List, [], ◌∷◌, ◌++◌, length, get_or, inl, inr, arith, pos}
 use Rattle.std.proofs.lemmas.Bool.{cases_lt}
 use Rattle.std.proofs.lemmas.List.{get_or_append_left, get_or_push, length_push}
 use Rattle.std.proofs.lemmas.Option.{slice_get-get_or}
 use Rattle.stop_match.specs.declared.point.Point.{Point}
 use Rattle.stop_match.specs.declared.cell.Cell.{Cell}
-use Rattle.stop_match.specs.Cell.{AreParents, cells, no_cell}
+use Rattle.stop_match.specs.Cell.{AreParents, no_cell}
 use Rattle.stop_match.specs.Place.{ArePointCells}
 use Rattle.stop_match.specs.Levels.{AreRising, AreLevelsOf}
 

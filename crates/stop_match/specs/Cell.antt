@@ -4,7 +4,7 @@
 --     IsBefore, IsNoLater           the order of keys: by squares, then by numbers
 --     cell_at d p                   the cell of the d-th grid that holds the p-th cell of the finest
 --     AreLevels levels              each grid's cells hold eight cells of the next finer grid, and the last has one cell
-use Rattle.std.specs.Prelude.{◌≡◌, ℕ, ℤ, zero, suc, ◌-ℤ◌, ◌+◌, ◌*◌, ◌/◌, ◌<◌, ◌≤◌, ◌≤ℤ◌, ◌⊎◌, pos, List, [], ◌∷◌, length, slice_index_or, int_lt, if◌then◌else◌, unsigned_abs}
+use Rattle.std.specs.Prelude.{◌≡◌, ℕ, ℤ, zero, suc, ◌-ℤ◌, ◌+◌, ◌*◌, ◌/◌, ◌<◌, ◌≤◌, ◌≤ℤ◌, ◌⊎◌, pos, List, [], length, slice_index_or, int_lt, if◌then◌else◌, unsigned_abs}
 use Rattle.stop_match.specs.declared.point.Point.{Point}
 use Rattle.stop_match.specs.declared.cell.Cell.{Cell}
 use Rattle.stop_match.specs.declared.target.Key.{Key}

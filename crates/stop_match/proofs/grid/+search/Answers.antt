@@ -1,7 +1,7 @@
-use Rattle.std.proofs.Common.{◌≡◌, ◌∙◌, ℕ, ◌+◌, ◌-◌, ◌*◌, ◌<◌, ◌≤◌, List, length, get_or, sym, ap, arith}
+use Rattle.std.proofs.Common.{◌≡◌, ◌∙◌, ◌-◌, ◌<◌, List, length, get_or, sym, ap, arith}
 use Rattle.std.proofs.lemmas.Bool.{false≢true}
 use Rattle.stop_match.specs.declared.cell.Cell.{Cell}
-use Rattle.stop_match.specs.Cell.{key_of, cell, cells, cell_at, no_cell, IsBefore}
+use Rattle.stop_match.specs.Cell.{key_of, cell, cells, no_cell}
 use Rattle.stop_match.proofs.LevelLemmas.{passed, cell_at-pred, cell_at-lt, cells-read}
 use Rattle.stop_match.proofs.grid.+search.Goals as goal
 

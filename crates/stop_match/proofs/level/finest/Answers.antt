@@ -1,4 +1,3 @@
-use Rattle.std.proofs.Common.{arith}
 use Rattle.std.proofs.lemmas.Result.{IfOk-weaker}
 use Rattle.stop_match.specs.Place.{AreCellsOf, ArePointCells}
 use Rattle.stop_match.proofs.PlaceLemmas.{all-places, point-cells}

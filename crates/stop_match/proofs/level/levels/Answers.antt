@@ -1,4 +1,4 @@
-use Rattle.std.proofs.Common.{◌++◌, ◌∷◌, [], arith}
+use Rattle.std.proofs.Common.{arith}
 use Rattle.stop_match.proofs.RisingLemmas.{point-cells-some, rising-one, rising-more, levels-whole}
 use Rattle.stop_match.proofs.level.levels.Goals as goal
 

@@ -1,4 +1,4 @@
-use Rattle.std.proofs.Common.{◌≡◌, arith}
+use Rattle.std.proofs.Common.{arith}
 use Rattle.stop_match.proofs.LevelLemmas.{within_push, are-parents}
 use Rattle.stop_match.proofs.level.parents.Goals as goal
 

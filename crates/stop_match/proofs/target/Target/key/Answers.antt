@@ -1,6 +1,6 @@
 use Rattle.std.proofs.Common.{◌≡◌, arith}
 use Rattle.std.proofs.lemmas.Int.{to_z-of_z}
-use Rattle.stop_match.specs.Cell.{key_of, gap, square_of}
+use Rattle.stop_match.specs.Cell.{key_of, gap}
 use Rattle.stop_match.proofs.target.Target.key.Goals as goal
 
 pub returns : goal.returns
