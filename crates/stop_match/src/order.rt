@@ -4,7 +4,7 @@ use crate::point::Point;
 // How points follow one another.
 #[derive(Clone, Copy, Debug)]
 pub(crate) enum Order {
-    // Along the curve that goes through each square of the earth before it leaves it (Z-order).
+    // Along a curve that goes through each square of the earth before it leaves it.
     Squares,
     // From south to north, and points of one latitude by number.
     Strips,
@@ -15,21 +15,37 @@ fn rank(coordinate: i32) -> u32 {
     coordinate.cast_unsigned() ^ 0x8000_0000
 }
 
-// Every second bit of a number is one of the bits of `half`.
-fn spread(half: u32) -> u64 {
-    let mut bits = u64::from(half);
-    bits = (bits | (bits << 16)) & 0x0000_ffff_0000_ffff;
-    bits = (bits | (bits << 8)) & 0x00ff_00ff_00ff_00ff;
-    bits = (bits | (bits << 4)) & 0x0f0f_0f0f_0f0f_0f0f;
-    bits = (bits | (bits << 2)) & 0x3333_3333_3333_3333;
-    (bits | (bits << 1)) & 0x5555_5555_5555_5555
+// The place on the curve that goes through each quarter of a square, and in it through each quarter of that, before it
+// leaves it, always on to a neighbour (Hilbert's curve).
+fn along_curve(north: u32, east: u32) -> u64 {
+    let mut north = north;
+    let mut east = east;
+    let mut place = 0u64;
+    for step in 0..32u32 {
+        let bit = 0x8000_0000u32 >> step;
+        let is_north = north & bit != 0;
+        let is_east = east & bit != 0;
+        let quarter = match (is_north, is_east) {
+            (false, false) => 0u64,
+            (true, false) => 1,
+            (true, true) => 2,
+            (false, true) => 3,
+        };
+        place = (place << 2) | quarter;
+        if !is_north {
+            let turned = if is_east { !north } else { north };
+            north = if is_east { !east } else { east };
+            east = turned;
+        }
+    }
+    place
 }
 
 impl Order {
     // The place of the point of a vertex.
     pub(crate) fn of(self, point: &Point, number: u32) -> u64 {
         match self {
-            Order::Squares => (spread(rank(point.lat)) << 1) | spread(rank(point.lon)),
+            Order::Squares => along_curve(rank(point.lat), rank(point.lon)),
             Order::Strips => (u64::from(rank(point.lat)) << 32) | u64::from(number),
         }
     }
