@@ -21,6 +21,7 @@ use Rattle.move_model.specs.Network.{IsAtOrBefore}
 use Rattle.service_day.specs.Order.{call_cmp, trip_cmp, same_seconds, IsNumbered}
 use Rattle.service_day.specs.declared.departure.Departure.{Departure}
 use Rattle.service_day.specs.Departure.{trip_of}
+use Rattle.service_day.proofs.OrderLemmas.{less, equal}
 use Rattle.service_day.proofs.ListLemmas.{filter-map, filter_none}
 
 call-total : IsTotalOrder call_cmp
@@ -35,12 +36,6 @@ is_before departure other = is_lt (trip_cmp (trip_of departure) (trip_of other))
 
 pub before-order : IsStrictWeakOrder is_before
 before-order = ranks_by calls-total (λ (departure : Departure). (trip_of departure).calls)
-
-less : (a b : ℕ) → a < b → nat_cmp a b ≡ Less
-less a b h = grind (arith, nat_tests)
-
-equal : (a b : ℕ) → a ≡ b → nat_cmp a b ≡ Equal
-equal a b h = grind (arith, nat_tests)
 
 -- what is not less the other way round is at or before
 at_or_before : (calls next : List Call) → is_lt (slice_cmp call_cmp next calls) ≡ false → IsAtOrBefore calls next

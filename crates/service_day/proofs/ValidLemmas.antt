@@ -19,7 +19,8 @@ use Rattle.gtfs_feed.specs.Feed.{IsFeed, IsFeedTrip, IsCopyRow, IsCopyStart, fir
 use Rattle.service_day.specs.DayTrips.{seconds_from, starts_from, starts, moved, copies, copy_at, itself, gives, rows_of, runs, is_served, trips_at, trips_of_date, night_trip, night_trips, day_trips, after_midnight, midnight, IsTimed, IsDayTrip}
 use Rattle.service_day.specs.Order.{IsNumbered}
 use Rattle.service_day.specs.declared.departure.Departure.{Departure}
-use Rattle.service_day.specs.Departure.{trip_of, call_of}
+use Rattle.service_day.specs.Shift.{shifted_call}
+use Rattle.service_day.specs.Departure.{trip_of}
 use Rattle.service_day.proofs.ListLemmas.{length-filter-le}
 
 -- a trip of the day with fewer calls than numbers of 32 bits
@@ -192,13 +193,13 @@ pub few_calls : (stops : ℕ) (departures : List Departure) (trips : List Trip) 
     → All (λ (departure : Departure). length departure.calls.now < 2 ^ 32) departures
 few_calls stops departures trips e h =
     let good = All-unmap (IsGood stops) trip_of departures (rw e h) in
-    λ k d low. omega (arith, (good k d low).few, length-map (get_or departures k d).calls.now (call_of (get_or departures k d)))
+    λ k d low. omega (arith, (good k d low).few, length-map (get_or departures k d).calls.now (shifted_call (get_or departures k d).shift))
 
 pub timed : (stops : ℕ) (departures : List Departure) (trips : List Trip) → map trip_of departures ≡ trips → All (IsGood stops) trips
-    → All (λ (departure : Departure). All (λ (call : Call). IsTimed (call_of departure call)) departure.calls.now) departures
+    → All (λ (departure : Departure). All (λ (call : Call). IsTimed (shifted_call departure.shift call)) departure.calls.now) departures
 timed stops departures trips e h =
     let good = All-unmap (IsGood stops) trip_of departures (rw e h) in
-    λ k d low. All-unmap IsTimed (call_of (get_or departures k d)) (get_or departures k d).calls.now (good k d low).trip_of_day.timed
+    λ k d low. All-unmap IsTimed (shifted_call (get_or departures k d).shift) (get_or departures k d).calls.now (good k d low).trip_of_day.timed
 
 pub valid : (stops : ℕ) (trips numbered : List Trip) → IsNumbered trips numbered → All (IsGood stops) trips → All (IsDayTrip stops) numbered
 valid stops trips numbered order h =

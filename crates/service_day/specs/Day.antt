@@ -1,5 +1,6 @@
 -- Days of the Gregorian calendar, as numbers of the form YYYYMMDD.
 --     IsDay day                  the calendar has this day of a year from 0 to 9999
+--     first_day                  1 January of the year 0
 --     day_number day             the days since 1 January 1970
 --     weekday_of day             0 for Monday to 6 for Sunday
 --     IsDayBefore before day     the day follows the one before
@@ -19,6 +20,9 @@ pub record IsDay (day : ℕ) : Type 0 where
   pub years : year_of day ≤ 9999
   pub months : (1 ≤ month_of day) × (month_of day ≤ 12)
   pub dates : (1 ≤ date_of day) × (date_of day ≤ days_in_month (pos (year_of day)) (month_of day))
+
+abbrev pub first_day : ℕ
+first_day = 101
 
 abbrev pub day_number : ℕ → ℤ
 day_number day = days_from_civil (pos (year_of day)) (month_of day) (date_of day)

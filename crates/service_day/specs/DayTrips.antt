@@ -95,11 +95,17 @@ call_count trips = sum_by (λ trip. length trip.calls) trips
 abbrev pub above : FileKind → ℕ → Refusal
 above file count = record { file = file; row = 0; cause = Limit count }
 
--- more than 2,000,000 trips, or else more than 20,000,000 calls
+abbrev pub most_trips : ℕ
+most_trips = 2000000
+
+abbrev pub most_calls : ℕ
+most_calls = 20000000
+
+-- more trips than the most, or else more calls than the most
 abbrev pub refusal_of : List Trip → Option Refusal
 refusal_of trips =
-    if nat_lt 2000000 (length trips) then Some (above Trips (length trips))
-    else (if nat_lt 20000000 (call_count trips) then Some (above StopTimes (call_count trips)) else None)
+    if nat_lt most_trips (length trips) then Some (above Trips (length trips))
+    else (if nat_lt most_calls (call_count trips) then Some (above StopTimes (call_count trips)) else None)
 
 -- want of memory, or the refusal of the trips
 abbrev pub IsRefusal : List Trip → Stopped → Type 0

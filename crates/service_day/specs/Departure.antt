@@ -2,22 +2,15 @@
 --     trip_of departure     the trip that it stands for
 --     taken night trips     the trips themselves, or the night trips that they give
 --     IsEarliest night trip second     a copy of the trip gives a trip exactly where it leaves at the second or later
-use Rattle.std.specs.Prelude.{◌≡◌, ℕ, ◌+◌, ◌-◌, ◌<◌, ◌≤◌, Bool, true, false, List, [], ◌∷◌, length, map}
-use Rattle.move_model.specs.declared.network.Call.{Call}
+use Rattle.std.specs.Prelude.{◌≡◌, ℕ, ◌<◌, ◌≤◌, Bool, true, false, List, [], ◌∷◌, length, map}
 use Rattle.move_model.specs.declared.network.Trip.{Trip}
 use Rattle.gtfs_feed.specs.declared.feed.FeedTrip.{FeedTrip}
 use Rattle.service_day.specs.DayTrips.{copy_at, night_trips}
+use Rattle.service_day.specs.Shift.{shifted_call}
 use Rattle.service_day.specs.declared.departure.Departure.{Departure}
 
--- the first departure is moved to the start, and the seconds before the cut are left out
-abbrev pub second_of : Departure → ℕ → ℕ
-second_of departure second = departure.start + (second - departure.first) - departure.cut
-
-abbrev pub call_of : Departure → Call → Call
-call_of departure call = record call { arr = second_of departure call.arr; dep = second_of departure call.dep }
-
 abbrev pub trip_of : Departure → Trip
-trip_of departure = record { name = departure.name.now; calls = map (call_of departure) departure.calls.now }
+trip_of departure = record { name = departure.name.now; calls = map (shifted_call departure.shift) departure.calls.now }
 
 abbrev pub taken : Bool → List Trip → List Trip
 taken false trips = trips

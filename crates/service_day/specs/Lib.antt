@@ -2,5 +2,6 @@ pub mod Day
 pub mod Running
 pub mod Order
 pub mod DayTrips
+pub mod Shift
 pub mod Departure
 pub mod Kept

@@ -1,12 +1,12 @@
 // Days of the calendar, as numbers of the form YYYYMMDD.
 ghost use Rattle.std.specs.Prelude.{◌≡◌, ◌<◌, ◌↔◌, pos, IfSome, IsNone};
 ghost use Rattle.jiff.specs.Words.{IsYmd};
-ghost use Rattle.service_day.specs.Day.{IsDay, IsDayBefore, year_of, month_of, date_of, weekday_of};
+ghost use Rattle.service_day.specs.Day.{IsDay, IsDayBefore, first_day, year_of, month_of, date_of, weekday_of};
 
 use jiff::civil::{Date, date};
 
 /// 1 January of the year 0.
-pub(crate) const FIRST_DAY: u32 = 101;
+const FIRST_DAY: u32 = 101;
 
 fn civil_date(day: u32) -> Date
     requires { IsDay day }
@@ -31,7 +31,7 @@ pub(crate) fn weekday(day: u32) -> usize
 // The day before, or None for the first day of the year 0.
 pub(crate) fn day_before(day: u32) -> Option<u32>
     requires { IsDay day }
-    ensures first { IsNone result ↔ (day ≡ FIRST_DAY) }
+    ensures first { IsNone result ↔ (day ≡ first_day) }
     ensures value { IfSome result (λ before. IsDayBefore before day) }
 {
     if day == FIRST_DAY {

@@ -3,7 +3,7 @@ ghost use Rattle.std.specs.Prelude.{◌≡◌, ◌≤◌, ◌<◌, ◌-◌, ◌^
 ghost use Rattle.std.specs.List.Sorted.{IsNonDecreasingBy};
 ghost use Rattle.gtfs_feed.specs.Feed.{IsFeed};
 ghost use Rattle.service_day.specs.Order.{IsNumbered};
-ghost use Rattle.service_day.specs.DayTrips.{rows_of, day_trips, call_count, above, IsRefusal, IsDayTrip};
+ghost use Rattle.service_day.specs.DayTrips.{rows_of, day_trips, call_count, most_trips, most_calls, above, IsRefusal, IsDayTrip};
 ghost use Rattle.service_day.specs.Departure.{trip_of};
 
 use crate::ServiceSet;
@@ -75,8 +75,8 @@ pub fn expand(
     ensures valid { IfOk result (All (IsDayTrip (length feed.now.stops))) }
 
     // Refused exactly where there are too many, if memory suffices.
-    ensures few_trips { IfOk result (λ trips. length trips ≤ MOST_TRIPS) }
-    ensures few_calls { IfOk result (λ trips. call_count trips ≤ MOST_CALLS) }
+    ensures few_trips { IfOk result (λ trips. length trips ≤ most_trips) }
+    ensures few_calls { IfOk result (λ trips. call_count trips ≤ most_calls) }
     ensures refused { IfErr result (IsRefusal (day_trips feed.now today.now before.now)) }
 {
     let Ok(rows) = sorted_rows(alloc, feed.copies.as_slice()) else {

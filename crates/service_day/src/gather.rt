@@ -41,7 +41,7 @@ fn put<'a>(
     night: bool,
 ) -> Result<(), NoMemory>
     requires rising { IsNonDecreasingBy (λ call. call.dep) departure.calls.now }
-    requires uncut { departure.cut ≡ 0 }
+    requires uncut { departure.shift.cut ≡ 0 }
     ensures { OnOk result (map trip_of departures.new.items ≡ map trip_of departures.old.items ++ taken night (trip_of departure.entry ∷ [])) }
 {
     if !night {

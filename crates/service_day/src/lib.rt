@@ -11,6 +11,7 @@ mod gather;
 mod number;
 mod rows;
 mod running;
+mod shift;
 
 pub use day_trips::expand;
 pub use running::{ServiceSet, active, active_before};

@@ -1,9 +1,9 @@
 // Services that run on a day.
 ghost use Rattle.std.specs.Prelude.{◌≡◌, ◌≢◌, ◌<◌, IfOk, map, false};
-ghost use Rattle.service_day.specs.Day.{IsDay, weekday_of};
+ghost use Rattle.service_day.specs.Day.{IsDay, first_day, weekday_of};
 ghost use Rattle.service_day.specs.Running.{runs_on, running, AreRunningBefore};
 
-use crate::day::{FIRST_DAY, day_before, weekday};
+use crate::day::{day_before, weekday};
 use gtfs_feed::{Feed, Service};
 use move_model::{List, NoMemory};
 use std::alloc::Global;
@@ -55,8 +55,8 @@ fn none(alloc: Global, feed: &Feed) -> Result<ServiceSet, NoMemory>
 /// The services that run on the day before a day: none before 1 January of the year 0.
 pub fn active_before(alloc: Global, feed: &Feed, day: u32) -> Result<ServiceSet, NoMemory>
     requires { IsDay day }
-    ensures first { day ≡ FIRST_DAY → IfOk result (λ set. set ≡ map (λ service. false) feed.now.services) }
-    ensures later { day ≢ FIRST_DAY → IfOk result (AreRunningBefore day feed.now.services) }
+    ensures first { day ≡ first_day → IfOk result (λ set. set ≡ map (λ service. false) feed.now.services) }
+    ensures later { day ≢ first_day → IfOk result (AreRunningBefore day feed.now.services) }
 {
     match day_before(day) {
         Some(before) => active(alloc, feed, before),

@@ -6,13 +6,14 @@ use Rattle.move_model.specs.declared.network.Call.{Call}
 use Rattle.service_day.specs.Order.{IsNumbered}
 use Rattle.service_day.specs.DayTrips.{IsTimed}
 use Rattle.service_day.specs.declared.departure.Departure.{Departure}
-use Rattle.service_day.specs.Departure.{trip_of, call_of}
+use Rattle.service_day.specs.Shift.{shifted_call}
+use Rattle.service_day.specs.Departure.{trip_of}
 use Rattle.service_day.proofs.NumberLemmas.{is_before, before-order, is-numbered}
 use Rattle.service_day.proofs.number.numbered.Goals as goal
 
 pub copied-requires : goal.copied-requires
 copied-requires c =
-    let timed : Departure → Type 0 = λ (departure : Departure). All (λ (call : Call). IsTimed (call_of departure call)) departure.calls.now in
+    let timed : Departure → Type 0 = λ (departure : Departure). All (λ (call : Call). IsTimed (shifted_call departure.shift call)) departure.calls.now in
     let all : All timed c.as_slice.result.now = rw c.as_slice.ensures.value (All-permutation timed c.args.departures.items c.sort_by.new.self.items c.in_ok-sort_by.ensures.permutation c.requires) in
     all
 
