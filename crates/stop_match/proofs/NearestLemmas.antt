@@ -1,7 +1,7 @@
 -- The least key is that of the nearest vertex.
 use Rattle.std.proofs.Common.{◌≡◌, ◌∙◌, ◌+◌, ◌-◌, ◌<◌, ◌⊎◌, ℕ, List, length, sym, ap, inl, inr, arith}
 use Rattle.move_model.specs.declared.network.NodeNo.{NodeNo}
-use Rattle.stop_match.specs.declared.point.Point.{Point}
+use Rattle.street_graph.specs.declared.point.Point.{Point}
 use Rattle.stop_match.specs.declared.cell.Cell.{Cell}
 use Rattle.stop_match.specs.declared.target.Key.{Key}
 use Rattle.stop_match.specs.declared.target.Target.{Target}

@@ -5,7 +5,7 @@ use Rattle.std.proofs.lemmas.List.{get_or_default}
 use Rattle.std.proofs.lemmas.List.Elements.{Contains-get_or, All-from_get_or}
 use Rattle.std.proofs.lemmas.List.Sorted.{Contains-permutation, IsPermutation-sym}
 use Rattle.std.proofs.lemmas.Option.{slice_get-get_or, slice_get_within, get_or_from_slice_get}
-use Rattle.stop_match.specs.declared.point.Point.{Point}
+use Rattle.street_graph.specs.declared.point.Point.{Point}
 use Rattle.stop_match.specs.declared.cell.Cell.{Cell}
 use Rattle.stop_match.specs.declared.level.Place.{Place}
 use Rattle.stop_match.specs.Place.{IsPlace, AreAllPlaces, AreCellsOf, ArePointCells}

@@ -5,7 +5,7 @@
 --     cell_at d p                   the cell of the d-th grid that holds the p-th cell of the finest
 --     AreLevels levels              each grid's cells hold eight cells of the next finer grid, and the last has one cell
 use Rattle.std.specs.Prelude.{◌≡◌, ℕ, ℤ, zero, suc, ◌-ℤ◌, ◌+◌, ◌*◌, ◌/◌, ◌<◌, ◌≤◌, ◌≤ℤ◌, ◌⊎◌, pos, List, [], length, slice_index_or, int_lt, if◌then◌else◌, unsigned_abs}
-use Rattle.stop_match.specs.declared.point.Point.{Point}
+use Rattle.street_graph.specs.declared.point.Point.{Point}
 use Rattle.stop_match.specs.declared.cell.Cell.{Cell}
 use Rattle.stop_match.specs.declared.target.Key.{Key}
 use Rattle.stop_match.specs.declared.target.Target.{Target}

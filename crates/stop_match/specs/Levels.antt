@@ -1,6 +1,6 @@
 -- The grids of some points.
 use Rattle.std.specs.Prelude.{◌≡◌, ◌<◌, ◌-◌, ◌+◌, ℕ, List, length}
-use Rattle.stop_match.specs.declared.point.Point.{Point}
+use Rattle.street_graph.specs.declared.point.Point.{Point}
 use Rattle.stop_match.specs.declared.cell.Cell.{Cell}
 use Rattle.stop_match.specs.Cell.{AreParents, cells}
 use Rattle.stop_match.specs.Place.{ArePointCells}

@@ -3,7 +3,7 @@
 --     IsNearest points lat lon scale v        v has the least square, and no vertex of a lesser number has it too
 use Rattle.std.specs.Prelude.{◌≡◌, ℕ, ℤ, ◌-ℤ◌, ◌-◌, ◌+◌, ◌*◌, ◌<◌, ◌≤◌, List, slice_get, Some, unsigned_abs}
 use Rattle.move_model.specs.declared.network.NodeNo.{NodeNo}
-use Rattle.stop_match.specs.declared.point.Point.{Point}
+use Rattle.street_graph.specs.declared.point.Point.{Point}
 
 abbrev pub squared : ℕ → ℕ
 squared n = n * n

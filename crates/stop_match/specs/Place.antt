@@ -3,7 +3,7 @@
 --     AreCellsOf cells places points     each cell is that of the point of the place's vertex
 --     ArePointCells cells points         each cell is that of a point, and each point has one
 use Rattle.std.specs.Prelude.{◌≡◌, ◌≤◌, ◌<◌, ◌+◌, ◌-◌, ℕ, List, length, slice_get, slice_index_or, Some}
-use Rattle.stop_match.specs.declared.point.Point.{Point}
+use Rattle.street_graph.specs.declared.point.Point.{Point}
 use Rattle.stop_match.specs.declared.cell.Cell.{Cell}
 use Rattle.stop_match.specs.declared.level.Place.{Place}
 use Rattle.stop_match.specs.Cell.{cell_of}

@@ -2,7 +2,7 @@
 ghost use Rattle.std.specs.Prelude.{◌≡◌, ◌+◌, ◌<◌, ◌^◌};
 ghost use Rattle.stop_match.specs.Cell.{Within, cell_of};
 
-use crate::point::Point;
+use street_graph::Point;
 
 // The bounds of the points of a cell, in millionths of a degree, and the least number of their vertices.
 #[derive(Clone, Copy, Debug)]

@@ -7,11 +7,11 @@ ghost use Rattle.stop_match.specs.Cell.{IsNoLater, AreLevels, cell, cells, cell_
 use crate::cell::Cell;
 use crate::level::{Level, levels};
 use crate::order::Order;
-use crate::point::Points;
 use crate::target::{Key, Target};
 use move_model::{List, NoMemory, NodeNo};
 use std::alloc::{AllocError, Global};
 use std::marker::Model;
+use street_graph::Points;
 
 // The greatest number of a vertex.
 const MAX_VERTICES: usize = 4_294_967_295;
@@ -26,7 +26,7 @@ pub struct Grid {
 
 impl Model for Grid {
     ghost use Rattle.std.specs.Prelude.{List as Items};
-    ghost use Rattle.stop_match.specs.declared.point.Point.{Point};
+    ghost use Rattle.street_graph.specs.declared.point.Point.{Point};
     ghost use Rattle.stop_match.specs.Levels.{AreLevelsOf};
 
     ghost Value = { Items Point };

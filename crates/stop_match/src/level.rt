@@ -1,6 +1,6 @@
 // The grids, from the finest, with a cell for each point, to the coarsest, with one cell.
 ghost use Rattle.std.specs.Prelude.{◌≡◌, ◌≤◌, ◌<◌, ◌+◌, ◌-◌, ◌*◌, ◌/◌, ◌^◌, ℕ, All, IfOk, length, slice_index_or};
-ghost use Rattle.stop_match.specs.declared.point.Point.{Point};
+ghost use Rattle.street_graph.specs.declared.point.Point.{Point};
 ghost use Rattle.stop_match.specs.declared.cell.Cell.{Cell};
 ghost use Rattle.stop_match.specs.Cell.{Within, AreParents};
 ghost use Rattle.stop_match.specs.Place.{IsPlace, AreAllPlaces, AreCellsOf, ArePointCells};
@@ -8,9 +8,9 @@ ghost use Rattle.stop_match.specs.Levels.{AreLevelsOf};
 
 use crate::cell::Cell;
 use crate::order::Order;
-use crate::point::Point;
 use move_model::List;
 use std::alloc::{AllocError, Global};
+use street_graph::Point;
 
 // The cells of a grid.
 pub(crate) type Level = List<Cell>;

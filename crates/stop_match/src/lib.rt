@@ -9,10 +9,8 @@ mod cell;
 mod grid;
 mod level;
 mod order;
-mod point;
 mod target;
 #[cfg(test)]
 mod tests;
 
 pub use grid::{Grid, nearest};
-pub use point::{Point, Points};

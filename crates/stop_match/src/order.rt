@@ -1,5 +1,5 @@
 // In which order the points of a grid stand. Any order serves: a good one makes cells small.
-use crate::point::Point;
+use street_graph::Point;
 
 // How points follow one another.
 #[derive(Clone, Copy, Debug)]

@@ -2,6 +2,7 @@ use super::*;
 use move_model::{NoMemory, NodeNo};
 use std::alloc::Global;
 use std::test::Fail;
+use street_graph::{Point, Points};
 
 /// A point as (latitude, longitude).
 type PointRow = (i32, i32);
