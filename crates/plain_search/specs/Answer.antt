@@ -11,10 +11,12 @@ use Rattle.move_model.specs.Network.{streets}
 use Rattle.move_model.specs.Journey.{IsJourney, HasEarliest}
 use Rattle.move_model.specs.Found.{IsLeastWalk}
 
+-- a place for each vertex and for 0, which is none; None where there is no walk
 pub record HoldsDistances (n : Network) (s : NodeNo) (row : List (Option ℕ)) : Type 0 where
   pub one_each : length row ≡ n.nodes + 1
   pub distances : (v : NodeNo) → HasDistance (streets n) s v (slice_index_or row v.0 None)
 
+-- None where there is no journey with at most so many rides
 pub record HoldsEarliest (n : Network) (s : NodeNo) (d limit : ℕ) (rows : List (List (Option ℕ))) : Type 0 where
   pub one_each : length rows ≡ limit + 1
   pub arrivals : (k : ℕ) (v : NodeNo) → k ≤ limit → HasEarliest n s d v k (slice_index_or (slice_index_or rows k []) v.0 None)
