@@ -22,6 +22,7 @@ use Rattle.street_graph.specs.declared.point.Point.{Point}
 use Rattle.street_graph.specs.Text.{fields}
 use Rattle.refusals.specs.Refusal.{IsFirstRefusal, first_cause, or_then}
 use Rattle.street_graph.specs.Refused.{IfRefused}
+use Rattle.street_graph.specs.Gr.{vertex_broken}
 use Rattle.street_graph.specs.Co.{co_lines, co_line_of, co_rules, co_form_broken, co_size_broken, co_vertex_broken, co_repeated_broken, co_coordinate_broken, co_spot_at, is_size, is_place, is_place_of, IsPlaced, AreCoPoints, IsCoSizeRow, CoLinesHold, IsCoRefused, by_line, no_size, miscounted}
 use Rattle.street_graph.specs.CoDraft.{cause_at, marked_broken, point_of, points_after, placed_after, ArePlaced, HasPlaced}
 use Rattle.street_graph.proofs.LineLemmas.{slice_get-push, slice_get_last, slice_get_back}
@@ -50,7 +51,7 @@ within-of low high n cause e = grind (arith, nat_tests)
 
 -- a number that is that of a vertex
 vertex-of : (nodes id : ℕ) (x y : Signed) → co_vertex_broken nodes (Place id x y) ≡ None → (1 ≤ id) × (id ≤ nodes)
-unfolding co_vertex_broken
+unfolding co_vertex_broken vertex_broken
 vertex-of nodes id x y e = within-of 1 nodes id _ e
 
 marked-of : (nodes : ℕ) (lines : List CoLine) (placed : List Bool) (id : ℕ) (x y : Signed) (later : Option Cause) (vertex : Option Cause)

@@ -10,12 +10,13 @@ use Rattle.std.specs.List.{list_any}
 use Rattle.std.specs.Str.{bytes_eq}
 use Rattle.std.specs.Str.Lines.{lines}
 use Rattle.move_model.specs.declared.refusal.Cause.{Cause}
-use Rattle.move_model.specs.declared.refusal.Cause.TheVariants.{Line, Vertex, Count, Repeated, Coordinate}
+use Rattle.move_model.specs.declared.refusal.Cause.TheVariants.{Line, Count, Repeated, Coordinate}
 use Rattle.street_graph.specs.declared.co.CoLine.{CoLine}
 use Rattle.street_graph.specs.declared.co.CoLine.TheVariants as co_line
 use Rattle.street_graph.specs.declared.co.Signed.{Signed}
 use Rattle.street_graph.specs.declared.point.Point.{Point}
 use Rattle.street_graph.specs.Text.{fields, number_of}
+use Rattle.street_graph.specs.Gr.{vertex_broken}
 use Rattle.refusals.specs.Refusal.{Accepted, IsFirstRefusal}
 
 abbrev pub signed_by : Bool → Option ℕ → Option Signed
@@ -95,7 +96,7 @@ co_size_broken nodes _ = None
 
 -- the number is that of a vertex
 unfoldable pub co_vertex_broken : ℕ → CoLine → Option Cause
-co_vertex_broken nodes (co_line.Place id x y) = if nat_le 1 id && nat_le id nodes then None else Some (Vertex id)
+co_vertex_broken nodes (co_line.Place id x y) = vertex_broken nodes id
 co_vertex_broken nodes _ = None
 
 -- no earlier line places the vertex

@@ -206,7 +206,7 @@ fn empty_draft(alloc: Global, nodes: u32) -> Result<Draft, Stopped>
 
 impl Draft {
     // Places a vertex, or tells the first rule that is broken.
-    #[tactic(auto, unfolding(crate::specs::Co::co_vertex_broken, crate::specs::Co::co_coordinate_broken))]
+    #[tactic(auto, unfolding(crate::specs::Co::co_vertex_broken, crate::specs::Gr::vertex_broken, crate::specs::Co::co_coordinate_broken))]
     fn place(&mut self, id: u64, x: Signed, y: Signed) -> Result<(), Cause>
         requires room { length self.old.points.items ≡ length self.old.placed.items }
         requires few { self.old.count < 2 ^ 32 - 1 }
@@ -282,7 +282,10 @@ fn read_lines(alloc: Global, text: &[u8], nodes: u32) -> Result<Draft, Stopped>
     Ok(draft)
 }
 
-/// The points of a text of the form `.co`, for a graph with so many vertices.
+/// The points of the vertices, from a text of the form `.co`, for a graph with so many vertices: the lines
+/// `p aux sp co N` and `v ID X Y`, with the longitude X and the latitude Y in millionths of a degree.
+///
+/// Refused tells the first rule that the text breaks: its line, or row 0 where there is no `p` line, and its cause.
 pub fn read_co(alloc: Global, bytes: &[u8], nodes: u32) -> Result<Points, Stopped>
     requires { length bytes.now ≤ 1073741824 }
     ensures points { IfOk result (spec.AreCoPoints nodes bytes.now) }

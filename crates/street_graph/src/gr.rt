@@ -213,7 +213,9 @@ fn read_lines(alloc: Global, text: &[u8]) -> Result<Draft, Stopped>
     Ok(draft)
 }
 
-/// The graph of a text of the form `.gr`.
+/// The graph of a text of the form `.gr`: the lines `p sp N M` and `a U V W`, with the weight W in seconds.
+///
+/// Refused tells the first rule that the text breaks: its line, or row 0 where there is no `p` line, and its cause.
 pub fn read_gr(alloc: Global, bytes: &[u8]) -> Result<Graph, Stopped>
     requires { length bytes.now ≤ 1073741824 }
     ensures graph { IfOk result (spec.IsGrGraph bytes.now) }
