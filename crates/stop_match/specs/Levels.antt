@@ -1,4 +1,6 @@
--- The grids of some points.
+-- The grids of some points, from the finest.
+--     AreRising levels points        each grid but the last has its parents behind it
+--     AreLevelsOf levels points      the same, up to a grid of one cell
 use Rattle.std.specs.Prelude.{◌≡◌, ◌<◌, ◌-◌, ◌+◌, ℕ, List, length}
 use Rattle.street_graph.specs.declared.point.Point.{Point}
 use Rattle.stop_match.specs.declared.cell.Cell.{Cell}

@@ -1,4 +1,4 @@
--- Points along a curve.
+-- The points of a grid, in any order.
 --     AreAllPlaces places n              the places of n vertices, by number
 --     AreCellsOf cells places points     each cell is that of the point of the place's vertex
 --     ArePointCells cells points         each cell is that of a point, and each point has one
@@ -24,6 +24,7 @@ pub record AreCellsOf (cells : List Cell) (places : List Place) (points : List P
   pub stands : (i : ℕ) (c : Cell) (p : Place) (d : Point) → i < length places
       → slice_index_or cells i c ≡ cell_of (slice_index_or points ((slice_index_or places i p).number - 1) d) (slice_index_or places i p).number
 
+-- each cell is that of a point with its number, and each point has such a cell
 pub record ArePointCells (cells : List Cell) (points : List Point) : Type 0 where
   pub real : (p : ℕ) (d : Cell) → p < length cells
       → (k : ℕ) × (point : Point) × (slice_get points k ≡ Some point) × (slice_index_or cells p d ≡ cell_of point (k + 1))
