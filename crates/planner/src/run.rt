@@ -29,15 +29,13 @@ fn read_streets<F: Files>(alloc: Global, plan: &PlanWords, files: &mut F) -> Res
     ensures counts { NeverFalls (F.read_faults files.old) (F.read_faults files.new) × NeverFalls (F.misses files.old) (F.misses files.new) }
 {
     let bytes = read_file(alloc, plan, files, FileKind::Gr)?;
-    if plan.co != "-" {
-        return Err(Status::Refused(Refusal {
+    match read_gr(alloc, &bytes) {
+        Ok(graph) if plan.co == "-" => Ok(graph),
+        Ok(_) => Err(Status::Refused(Refusal {
             file: FileKind::Co,
             row: 0,
             cause: Cause::Unbuilt,
-        }));
-    }
-    match read_gr(alloc, &bytes) {
-        Ok(graph) => Ok(graph),
+        })),
         Err(stopped) => Err(status_of(stopped)),
     }
 }

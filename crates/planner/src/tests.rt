@@ -11,6 +11,8 @@ use std::sync::ledger::{Blank, Ledger};
 use std::test::Fail;
 use steps::Steps;
 
+mod worked;
+
 const FILES: [(&str, &[u8]); 7] = [
     ("base/stops.txt", b"stop_id\nA\nB\nC\nD\n"),
     (
@@ -34,7 +36,7 @@ const FILES: [(&str, &[u8]); 7] = [
 ];
 
 const ROWS: &[u8] =
-    b"query,journey,kind,id,from,from_at,to,to_at,start,end,arrive\n1,1,pair,0,node:1,1,node:4,4,07:55:00,,09:55:00\n1,2,pair,2,node:1,1,node:4,4,07:55:00,,08:30:00\n";
+    b"query,journey,kind,id,from,from_at,to,to_at,start,end,arrive\n1,1,pair,0,node:1,1,node:4,4,07:55:00,,09:55:00\n1,1,walk,,,1,,4,07:55:00,09:55:00,\n1,2,pair,2,node:1,1,node:4,4,07:55:00,,08:30:00\n1,2,ride,t1,A,1,B,2,08:00:00,08:10:00,\n1,2,walk,,,2,,3,08:10:00,08:14:00,\n1,2,ride,t2,C,3,D,4,08:15:00,08:30:00,\n";
 
 fn run_counted<F: Files, O: Sink, E: Sink, L: Ledger, M: Ledger>(
     alloc: Global,
@@ -147,7 +149,7 @@ fn each_failing_write_leaves_a_prefix(rt: HostRuntime) -> Result<(), Fail> {
         let mut err = MemSink::new(alloc);
         let status = run_words(alloc, PLAN, &mut files, &mut out, &mut err)?;
         if status == Status::Done {
-            assert!(rt; nth > 10);
+            assert!(rt; nth > 30);
             break;
         }
         assert_eq!(rt; status, Status::WriteFault);
@@ -160,7 +162,7 @@ fn each_failing_write_leaves_a_prefix(rt: HostRuntime) -> Result<(), Fail> {
 #[test]
 fn tells_what_is_wrong(rt: HostRuntime) -> Result<(), Fail> {
     let alloc = rt.alloc();
-    let rows: [(&str, &str, &[u8], &[u8]); 9] = [
+    let rows: [(&str, &str, &[u8], &[u8]); 10] = [
         (
             "plan base",
             "",
@@ -184,6 +186,12 @@ fn tells_what_is_wrong(rt: HostRuntime) -> Result<(), Fail> {
             "",
             b"",
             b"refused: CO row 0: unbuilt\n",
+        ),
+        (
+            "plan base base.gr base.co 20250303 1000 q.csv",
+            "base.gr",
+            b"p sp 4 5\n",
+            b"refused: GR row 1: count 0\n",
         ),
         (
             PLAN,

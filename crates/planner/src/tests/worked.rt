@@ -1,0 +1,344 @@
+// The answers to one query over the sample with other files in place of some of its own.
+use super::*;
+use std::process::Abort;
+
+// Asserts that a query over the sample with these files in place of its own gives these rows behind the header.
+fn assert_rows<R: Abort>(
+    rt: &R,
+    alloc: Global,
+    words: &str,
+    files: &[(&str, &[u8])],
+    query: &[u8],
+    rows: &[u8],
+) -> Result<(), Fail> {
+    let mut held = sample(alloc)?;
+    for (name, bytes) in files {
+        held.put(name, bytes)?;
+    }
+    let mut text = b"kind,from,to,first,last,trips\n".to_vec(alloc)?;
+    text.extend_from_slice(query)?;
+    held.put("q.csv", text.as_slice())?;
+    let mut out = MemSink::new(alloc);
+    let mut err = MemSink::new(alloc);
+    let status = run_words(alloc, words, &mut held, &mut out, &mut err)?;
+    assert_eq!(rt; err.taken(), b"".as_slice());
+    assert_eq!(rt; status, Status::Done);
+    assert!(rt; out.taken().starts_with(HEADER));
+    assert!(rt; out.taken().ends_with(rows));
+    assert_eq!(rt; out.taken().len(), HEADER.len() + rows.len());
+    Ok(())
+}
+
+const HEADER: &[u8] = b"query,journey,kind,id,from,from_at,to,to_at,start,end,arrive\n";
+
+#[test]
+fn answers_over_streets_and_trips(rt: HostRuntime) -> Result<(), Fail> {
+    let alloc = rt.alloc();
+    // The sample.
+    assert_rows(
+        &rt,
+        alloc,
+        PLAN,
+        &[],
+        b"at,node:1,node:4,07:55:00,,2",
+        b"1,1,pair,0,node:1,1,node:4,4,07:55:00,,09:55:00\n1,1,walk,,,1,,4,07:55:00,09:55:00,\n1,2,pair,2,node:1,1,node:4,4,07:55:00,,08:30:00\n1,2,ride,t1,A,1,B,2,08:00:00,08:10:00,\n1,2,walk,,,2,,3,08:10:00,08:14:00,\n1,2,ride,t2,C,3,D,4,08:15:00,08:30:00,\n",
+    )?;
+    // One trip at most.
+    assert_rows(
+        &rt,
+        alloc,
+        PLAN,
+        &[],
+        b"at,node:1,node:4,07:55:00,,1",
+        b"1,1,pair,0,node:1,1,node:4,4,07:55:00,,09:55:00\n1,1,walk,,,1,,4,07:55:00,09:55:00,\n",
+    )?;
+    // A walk that ends when the trip departs.
+    assert_rows(
+        &rt,
+        alloc,
+        PLAN,
+        &[(
+            "base.gr",
+            b"p sp 4 4\na 2 3 300\na 3 2 300\na 1 4 7200\na 4 1 7200\n",
+        )],
+        b"at,node:1,node:4,07:55:00,,2",
+        b"1,1,pair,0,node:1,1,node:4,4,07:55:00,,09:55:00\n1,1,walk,,,1,,4,07:55:00,09:55:00,\n1,2,pair,2,node:1,1,node:4,4,07:55:00,,08:30:00\n1,2,ride,t1,A,1,B,2,08:00:00,08:10:00,\n1,2,walk,,,2,,3,08:10:00,08:15:00,\n1,2,ride,t2,C,3,D,4,08:15:00,08:30:00,\n",
+    )?;
+    // A walk of one second too many.
+    assert_rows(
+        &rt,
+        alloc,
+        PLAN,
+        &[(
+            "base.gr",
+            b"p sp 4 4\na 2 3 301\na 3 2 301\na 1 4 7200\na 4 1 7200\n",
+        )],
+        b"at,node:1,node:4,07:55:00,,2",
+        b"1,1,pair,0,node:1,1,node:4,4,07:55:00,,09:55:00\n1,1,walk,,,1,,4,07:55:00,09:55:00,\n",
+    )?;
+    // From a vertex to itself.
+    assert_rows(
+        &rt,
+        alloc,
+        PLAN,
+        &[],
+        b"at,node:1,node:1,07:55:00,,2",
+        b"1,1,pair,0,node:1,1,node:1,1,07:55:00,,07:55:00\n",
+    )?;
+    // No journey.
+    assert_rows(
+        &rt,
+        alloc,
+        PLAN,
+        &[],
+        b"at,stop:B,stop:A,08:12:00,,2",
+        b"1,0,none,,stop:B,2,stop:A,1,08:12:00,,\n",
+    )?;
+    // A trip caught exactly.
+    assert_rows(
+        &rt,
+        alloc,
+        PLAN,
+        &[],
+        b"at,stop:B,stop:A,08:11:00,,2",
+        b"1,1,pair,1,stop:B,2,stop:A,1,08:11:00,,10:30:00\n1,1,walk,,,2,,3,08:11:00,08:15:00,\n1,1,ride,t2,C,3,D,4,08:15:00,08:30:00,\n1,1,walk,,,4,,1,08:30:00,10:30:00,\n",
+    )?;
+    // A trip missed by a second.
+    assert_rows(
+        &rt,
+        alloc,
+        PLAN,
+        &[],
+        b"at,node:1,node:4,08:00:01,,2",
+        b"1,1,pair,0,node:1,1,node:4,4,08:00:01,,10:00:01\n1,1,walk,,,1,,4,08:00:01,10:00:01,\n",
+    )?;
+    // Two stops at one vertex.
+    assert_rows(
+        &rt,
+        alloc,
+        PLAN,
+        &[("base/stop_nodes.txt", b"stop_id,node\nA,1\nB,2\nC,2\nD,4\n")],
+        b"at,node:1,node:4,07:55:00,,2",
+        b"1,1,pair,0,node:1,1,node:4,4,07:55:00,,09:55:00\n1,1,walk,,,1,,4,07:55:00,09:55:00,\n1,2,pair,2,node:1,1,node:4,4,07:55:00,,08:30:00\n1,2,ride,t1,A,1,B,2,08:00:00,08:10:00,\n1,2,ride,t2,C,2,D,4,08:15:00,08:30:00,\n",
+    )?;
+    // An overtaking trip.
+    assert_rows(
+        &rt,
+        alloc,
+        PLAN,
+        &[
+            ("base/trips.txt", b"service_id,trip_id\nw,t1\nw,t2\nw,t3\n"),
+            (
+                "base/stop_times.txt",
+                b"trip_id,arrival_time,departure_time,stop_id,stop_sequence\nt1,08:00:00,08:00:00,A,1\nt1,08:10:00,08:10:00,B,2\nt2,08:15:00,08:15:00,C,1\nt2,08:30:00,08:30:00,D,2\nt3,08:01:00,08:01:00,A,1\nt3,08:09:00,08:09:00,B,2\n",
+            ),
+            (
+                "base.gr",
+                b"p sp 4 4\na 2 3 360\na 3 2 360\na 1 4 7200\na 4 1 7200\n",
+            ),
+        ],
+        b"at,node:1,node:4,07:55:00,,2",
+        b"1,1,pair,0,node:1,1,node:4,4,07:55:00,,09:55:00\n1,1,walk,,,1,,4,07:55:00,09:55:00,\n1,2,pair,2,node:1,1,node:4,4,07:55:00,,08:30:00\n1,2,ride,t3,A,1,B,2,08:01:00,08:09:00,\n1,2,walk,,,2,,3,08:09:00,08:15:00,\n1,2,ride,t2,C,3,D,4,08:15:00,08:30:00,\n",
+    )?;
+    // A trip without a change.
+    assert_rows(
+        &rt,
+        alloc,
+        PLAN,
+        &[
+            ("base/trips.txt", b"service_id,trip_id\nw,t1\nw,t2\nw,t4\n"),
+            (
+                "base/stop_times.txt",
+                b"trip_id,arrival_time,departure_time,stop_id,stop_sequence\nt1,08:00:00,08:00:00,A,1\nt1,08:10:00,08:10:00,B,2\nt2,08:15:00,08:15:00,C,1\nt2,08:30:00,08:30:00,D,2\nt4,08:05:00,08:05:00,A,1\nt4,08:30:00,08:30:00,D,2\n",
+            ),
+        ],
+        b"at,node:1,node:4,07:55:00,,2",
+        b"1,1,pair,0,node:1,1,node:4,4,07:55:00,,09:55:00\n1,1,walk,,,1,,4,07:55:00,09:55:00,\n1,2,pair,1,node:1,1,node:4,4,07:55:00,,08:30:00\n1,2,ride,t4,A,1,D,4,08:05:00,08:30:00,\n",
+    )?;
+    Ok(())
+}
+
+#[test]
+fn answers_over_feeds(rt: HostRuntime) -> Result<(), Fail> {
+    let alloc = rt.alloc();
+    // Marks, carriage returns, quotes, another order, times left out.
+    assert_rows(
+        &rt,
+        alloc,
+        PLAN,
+        &[
+            ("base/trips.txt", b"service_id,trip_id\nw,t9\n"),
+            (
+                "base/stop_times.txt",
+                b"\xEF\xBB\xBFstop_sequence,\"trip_id\",stop_id,departure_time,arrival_time\r\n10,\"t9\",A,24:50:00,\r\n20,t9,B,,\r\n30,t9,C,,\r\n40,t9,D,,25:10:00\r\n",
+            ),
+        ],
+        b"at,node:1,node:3,24:45:00,,1",
+        b"1,1,pair,1,node:1,1,node:3,3,24:45:00,,25:00:40\n1,1,ride,t9,A,1,B,2,24:50:00,24:56:40,\n1,1,walk,,,2,,3,24:56:40,25:00:40,\n",
+    )?;
+    // An added date.
+    assert_rows(
+        &rt,
+        alloc,
+        PLAN,
+        &[(
+            "base/calendar.txt",
+            b"service_id,monday,tuesday,wednesday,thursday,friday,saturday,sunday,start_date,end_date\nw,0,0,0,0,0,0,0,20250101,20251231\n",
+        )],
+        b"at,node:1,node:4,07:55:00,,2",
+        b"1,1,pair,0,node:1,1,node:4,4,07:55:00,,09:55:00\n1,1,walk,,,1,,4,07:55:00,09:55:00,\n1,2,pair,2,node:1,1,node:4,4,07:55:00,,08:30:00\n1,2,ride,t1,A,1,B,2,08:00:00,08:10:00,\n1,2,walk,,,2,,3,08:10:00,08:14:00,\n1,2,ride,t2,C,3,D,4,08:15:00,08:30:00,\n",
+    )?;
+    // A removed date.
+    assert_rows(
+        &rt,
+        alloc,
+        PLAN,
+        &[
+            (
+                "base/calendar.txt",
+                b"service_id,monday,tuesday,wednesday,thursday,friday,saturday,sunday,start_date,end_date\nw,1,0,0,0,0,0,0,20250101,20251231\n",
+            ),
+            (
+                "base/calendar_dates.txt",
+                b"service_id,date,exception_type\nw,20250303,2\n",
+            ),
+        ],
+        b"at,node:1,node:4,07:55:00,,2",
+        b"1,1,pair,0,node:1,1,node:4,4,07:55:00,,09:55:00\n1,1,walk,,,1,,4,07:55:00,09:55:00,\n",
+    )?;
+    // No trips at all.
+    assert_rows(
+        &rt,
+        alloc,
+        PLAN,
+        &[
+            ("base/stops.txt", b"stop_id\n"),
+            (
+                "base/calendar_dates.txt",
+                b"service_id,date,exception_type\n",
+            ),
+            ("base/trips.txt", b"service_id,trip_id\n"),
+            (
+                "base/stop_times.txt",
+                b"trip_id,arrival_time,departure_time,stop_id,stop_sequence\n",
+            ),
+            ("base/stop_nodes.txt", b"stop_id,node\n"),
+        ],
+        b"at,node:1,node:4,07:55:00,,2",
+        b"1,1,pair,0,node:1,1,node:4,4,07:55:00,,09:55:00\n1,1,walk,,,1,,4,07:55:00,09:55:00,\n",
+    )?;
+    // The second copy of a trip.
+    assert_rows(
+        &rt,
+        alloc,
+        PLAN,
+        &[
+            ("base/trips.txt", b"service_id,trip_id\nw,f\n"),
+            (
+                "base/stop_times.txt",
+                b"trip_id,arrival_time,departure_time,stop_id,stop_sequence\nf,06:00:00,06:00:00,A,1\nf,06:10:00,06:10:00,B,2\n",
+            ),
+            (
+                "base/frequencies.txt",
+                b"trip_id,start_time,end_time,headway_secs\nf,08:00:00,08:30:00,900\n",
+            ),
+        ],
+        b"at,node:1,node:2,08:00:01,,1",
+        b"1,1,pair,1,node:1,1,node:2,2,08:00:01,,08:25:00\n1,1,ride,f,A,1,B,2,08:15:00,08:25:00,\n",
+    )?;
+    // No copy at the end.
+    assert_rows(
+        &rt,
+        alloc,
+        PLAN,
+        &[
+            ("base/trips.txt", b"service_id,trip_id\nw,f\n"),
+            (
+                "base/stop_times.txt",
+                b"trip_id,arrival_time,departure_time,stop_id,stop_sequence\nf,06:00:00,06:00:00,A,1\nf,06:10:00,06:10:00,B,2\n",
+            ),
+            (
+                "base/frequencies.txt",
+                b"trip_id,start_time,end_time,headway_secs\nf,08:00:00,08:30:00,900\n",
+            ),
+        ],
+        b"at,node:1,node:2,08:15:01,,1",
+        b"1,0,none,,node:1,1,node:2,2,08:15:01,,\n",
+    )?;
+    // A trip of the day before.
+    assert_rows(
+        &rt,
+        alloc,
+        PLAN,
+        &[
+            (
+                "base/calendar_dates.txt",
+                b"service_id,date,exception_type\nw,20250302,1\n",
+            ),
+            ("base/trips.txt", b"service_id,trip_id\nw,t9\n"),
+            (
+                "base/stop_times.txt",
+                b"trip_id,arrival_time,departure_time,stop_id,stop_sequence\nt9,,24:50:00,A,10\nt9,,,B,20\nt9,,,C,30\nt9,25:10:00,,D,40\n",
+            ),
+        ],
+        b"at,node:1,node:3,00:45:00,,1",
+        b"1,1,pair,1,node:1,1,node:3,3,00:45:00,,01:00:40\n1,1,ride,t9,A,1,B,2,00:50:00,00:56:40,\n1,1,walk,,,2,,3,00:56:40,01:00:40,\n",
+    )?;
+    // A call that stands over midnight.
+    assert_rows(
+        &rt,
+        alloc,
+        PLAN,
+        &[
+            (
+                "base/calendar_dates.txt",
+                b"service_id,date,exception_type\nw,20250302,1\n",
+            ),
+            ("base/trips.txt", b"service_id,trip_id\nw,n\n"),
+            (
+                "base/stop_times.txt",
+                b"trip_id,arrival_time,departure_time,stop_id,stop_sequence\nn,23:50:00,23:50:00,A,1\nn,23:59:00,24:01:00,B,2\nn,24:10:00,24:10:00,D,3\n",
+            ),
+        ],
+        b"at,node:2,node:4,00:00:30,,1",
+        b"1,1,pair,1,node:2,2,node:4,4,00:00:30,,00:10:00\n1,1,ride,n,B,2,D,4,00:01:00,00:10:00,\n",
+    )?;
+    // The same with a buffer that is too long.
+    assert_rows(
+        &rt,
+        alloc,
+        "plan base base.gr - 20250303 1000 q.csv 31",
+        &[
+            (
+                "base/calendar_dates.txt",
+                b"service_id,date,exception_type\nw,20250302,1\n",
+            ),
+            ("base/trips.txt", b"service_id,trip_id\nw,n\n"),
+            (
+                "base/stop_times.txt",
+                b"trip_id,arrival_time,departure_time,stop_id,stop_sequence\nn,23:50:00,23:50:00,A,1\nn,23:59:00,24:01:00,B,2\nn,24:10:00,24:10:00,D,3\n",
+            ),
+        ],
+        b"at,node:2,node:4,00:00:30,,1",
+        b"1,0,none,,node:2,2,node:4,4,00:00:30,,\n",
+    )?;
+    // A buffer that is just kept.
+    assert_rows(
+        &rt,
+        alloc,
+        "plan base base.gr - 20250303 1000 q.csv 60",
+        &[],
+        b"at,node:1,node:4,07:55:00,,2",
+        b"1,1,pair,0,node:1,1,node:4,4,07:55:00,,09:55:00\n1,1,walk,,,1,,4,07:55:00,09:55:00,\n1,2,pair,2,node:1,1,node:4,4,07:55:00,,08:30:00\n1,2,ride,t1,A,1,B,2,08:00:00,08:10:00,\n1,2,walk,,,2,,3,08:10:00,08:14:00,\n1,2,ride,t2,C,3,D,4,08:15:00,08:30:00,\n",
+    )?;
+    // A buffer of one second more.
+    assert_rows(
+        &rt,
+        alloc,
+        "plan base base.gr - 20250303 1000 q.csv 61",
+        &[],
+        b"at,node:1,node:4,07:55:00,,2",
+        b"1,1,pair,0,node:1,1,node:4,4,07:55:00,,09:55:00\n1,1,walk,,,1,,4,07:55:00,09:55:00,\n",
+    )?;
+    Ok(())
+}
