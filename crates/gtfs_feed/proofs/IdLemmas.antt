@@ -12,7 +12,7 @@ use Rattle.move_model.specs.declared.refusal.Cause.TheVariants as cause
 use Rattle.tables.specs.Names.{place_of}
 use Rattle.tables.specs.Values.{id_broken, id_empty, id_long, id_not_utf8}
 use Rattle.gtfs_feed.specs.Feed.{IsId}
-use Rattle.gtfs_feed.specs.Ids.{new_id_broken, repeated_broken}
+use Rattle.gtfs_feed.specs.Ids.{repeated_broken}
 
 pub both-none : (a b : Option Cause) → or_then a b ≡ None → (a ≡ None) × (b ≡ None)
 both-none None b e = (refl, e)
@@ -38,12 +38,14 @@ is-none : {X : Type 0} (o : Option X) → is_some o ≡ false → o ≡ None
 is-none None e = refl
 is-none (Some x) e = cc e
 
--- an id that stands once
-pub new-id : (names : List (List ℕ)) (id : List ℕ) → new_id_broken names id ≡ None → IsId id × (place_of id names ≡ None)
+-- an id that stands once, by the first two rules of a row
+pub new-id : (names : List (List ℕ)) (id : List ℕ) (rest : Option Cause) → or_then (id_broken id) (or_then (repeated_broken names id) rest) ≡ None
+    → IsId id × (place_of id names ≡ None)
 unfolding repeated_broken
-new-id names id e =
-    let parts = both-none (id_broken id) (repeated_broken names id) e in
-    (is-id id parts.0, is-none (place_of id names) (cause-then (is_some (place_of id names)) cause.Repeated parts.1))
+new-id names id rest e =
+    let parts = both-none (id_broken id) (or_then (repeated_broken names id) rest) e in
+    let once = both-none (repeated_broken names id) rest parts.1 in
+    (is-id id parts.0, is-none (place_of id names) (cause-then (is_some (place_of id names)) cause.Repeated once.0))
 
 past : (b : Bool) (n : ℕ) → (if b then Some n else None) ≡ None → b ≡ false
 past true n e = cc e

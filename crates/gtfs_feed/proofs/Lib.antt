@@ -2,3 +2,16 @@ pub mod IdLemmas
 pub mod StopLemmas
 pub mod RisingLemmas
 pub mod FinishLemmas
+pub mod ReadingLemmas
+pub mod RefuseLemmas
+pub mod Progress
+pub mod StopsTable
+pub mod TripsTable
+pub mod CalendarTable
+pub mod CallsTable
+pub mod CopiesTable
+pub mod DatesTable
+pub mod NamedLemmas
+pub mod TripFaults
+pub mod ServicesLemmas
+pub mod FeedLemmas

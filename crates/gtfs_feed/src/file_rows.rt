@@ -1,6 +1,11 @@
 // The rows of a file of the feed, one at a time.
-ghost use Rattle.std.specs.Prelude.{◌≡◌, ◌<◌, ◌≤◌, ◌+◌, length, true, IfOk};
-ghost use Rattle.std.specs.Bool.{OnTrue};
+ghost use Rattle.std.specs.Prelude.{◌≡◌, ◌<◌, length, IfOk, IfErr};
+ghost use Rattle.std.specs.Bool.{OnTrue, OnFalse};
+ghost use Rattle.move_model.specs.declared.refusal.Cause.TheVariants as cause;
+ghost use Rattle.tables.specs.Table.{rows_of};
+ghost use Rattle.gtfs_feed.specs.Table.{Refuses};
+ghost use Rattle.gtfs_feed.specs.Reading.{IsReading, ReadsRow};
+ghost use Rattle.gtfs_feed.specs.RowStops.{IsRowStop};
 
 use crate::refuse::{MOST_ROWS, RowStop, refuse_row, refuse_rows};
 use move_model::{FileKind, Stopped};
@@ -19,12 +24,10 @@ pub(crate) struct FileRows<'a> {
 }
 
 impl FileRows<'_> {
-    pub(crate) fn open<'a>(
-        alloc: Global,
-        file: FileKind,
-        bytes: &'a [u8],
-    ) -> Result<FileRows<'a>, Stopped>
-        ensures { IfOk result (λ rows. rows.number ≡ 0) }
+    pub(crate) fn open<'a>(alloc: Global, file: FileKind, bytes: &'a [u8]) -> Result<FileRows<'a>, Stopped>
+        ensures reads { IfOk result IsReading }
+        ensures begins { IfOk result (λ rows. (rows.file ≡ file) × (rows.bytes.now ≡ bytes.now) × (rows.number ≡ 0)) }
+        ensures wants { IfErr result (λ stop. stop ≡ Stopped.NoMemory) }
     {
         match open_table(alloc, bytes) {
             Err(_) => Err(Stopped::NoMemory),
@@ -41,10 +44,12 @@ impl FileRows<'_> {
 
     // Reads the next row, and answers whether there was one.
     pub(crate) fn advance(&mut self, alloc: Global) -> Result<bool, Stopped>
-        requires { self.old.number ≤ 50000000 }
-        ensures few { IfOk result (λ found. self.new.number ≤ 50000000) }
-        ensures counts { IfOk result (λ found. OnTrue found (self.new.number ≡ self.old.number + 1)) }
+        requires { IsReading self.old }
+        ensures row { IfOk result (λ found. OnTrue found (ReadsRow self.old self.new)) }
+        ensures end { IfOk result (λ found. OnFalse found (length (rows_of self.old.bytes.now) ≡ self.old.number)) }
         ensures shorter { IfOk result (λ found. OnTrue found (length self.new.rows < length self.old.rows)) }
+        ensures limit { IfErr result (λ stop. Refuses stop (λ file row because. (file ≡ self.old.file) × (row ≡ 0)
+            × (because ≡ cause.Limit (length (rows_of self.old.bytes.now))) × (50000000 < length (rows_of self.old.bytes.now)))) }
     {
         match self.rows.next_row(&mut self.row) {
             Err(_) => Err(Stopped::NoMemory),
@@ -59,7 +64,10 @@ impl FileRows<'_> {
         }
     }
 
-    pub(crate) fn refuse(&self, alloc: Global, stop: RowStop) -> Stopped {
+    // The last row was not taken.
+    pub(crate) fn refuse(&self, alloc: Global, stop: RowStop) -> Stopped
+        ensures { Refuses result (IsRowStop self.now.file (length (rows_of self.now.bytes.now)) self.now.number stop) }
+    {
         refuse_row(alloc, self.file, self.bytes, self.number, stop)
     }
 }

@@ -5,10 +5,11 @@ ghost use Rattle.tables.specs.Values.{number_broken, number_in};
 ghost use Rattle.gtfs_feed.specs.Ids as spec;
 
 use move_model::Cause;
-use tables::{Names, check_id, read_number};
+use tables::{Names, read_number};
 
+/// Tests that no earlier row has an id.
 #[tactic(auto, unfolding(crate::specs::Ids::repeated_broken))]
-fn not_repeated(names: &Names, id: &[u8]) -> Result<(), Cause>
+pub(crate) fn check_new(names: &Names, id: &[u8]) -> Result<(), Cause>
     ensures { Tests result (spec.repeated_broken names.now id.now) tt }
 {
     if names.place(id).is_some() {
@@ -16,14 +17,6 @@ fn not_repeated(names: &Names, id: &[u8]) -> Result<(), Cause>
     } else {
         Ok(())
     }
-}
-
-/// Tests that a text is an id that no earlier row has.
-pub(crate) fn check_new_id(names: &Names, id: &[u8]) -> Result<(), Cause>
-    ensures { Tests result (spec.new_id_broken names.now id.now) tt }
-{
-    check_id(id)?;
-    not_repeated(names, id)
 }
 
 /// Reads a whole number from `low` to the greatest of its type; any other text is Number.

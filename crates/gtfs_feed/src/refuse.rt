@@ -1,4 +1,10 @@
 // Refusals of the feed's files.
+ghost use Rattle.std.specs.Prelude.{◌≡◌, length};
+ghost use Rattle.move_model.specs.declared.refusal.Cause.TheVariants as cause;
+ghost use Rattle.tables.specs.Table.{rows_of};
+ghost use Rattle.gtfs_feed.specs.Table.{Refuses};
+ghost use Rattle.gtfs_feed.specs.RowStops.{IsRowStop};
+
 use move_model::{Cause, FileKind, NoMemory, Refusal, Stopped};
 use std::alloc::Global;
 use tables::count_rows;
@@ -36,7 +42,9 @@ impl From<NoMemory> for RowStop {
 }
 
 // A rule of the whole file is broken.
-pub(crate) fn refuse_file(file: FileKind, cause: Cause) -> Stopped {
+pub(crate) fn refuse_file(file: FileKind, cause: Cause) -> Stopped
+    ensures { Refuses result (λ f row because. (f ≡ file) × (row ≡ 0) × (because ≡ cause)) }
+{
     Stopped::Refused(Refusal {
         file,
         row: 0,
@@ -45,7 +53,9 @@ pub(crate) fn refuse_file(file: FileKind, cause: Cause) -> Stopped {
 }
 
 // A file has more rows than are read.
-pub(crate) fn refuse_rows(alloc: Global, file: FileKind, bytes: &[u8]) -> Stopped {
+pub(crate) fn refuse_rows(alloc: Global, file: FileKind, bytes: &[u8]) -> Stopped
+    ensures { Refuses result (λ f row because. (f ≡ file) × (row ≡ 0) × (because ≡ cause.Limit (length (rows_of bytes.now)))) }
+{
     match count_rows(alloc, bytes) {
         Err(_) => Stopped::NoMemory,
         Ok(rows) => refuse_file(file, Cause::Limit(rows as u64)),
@@ -59,7 +69,9 @@ pub(crate) fn refuse_row(
     bytes: &[u8],
     row: u32,
     stop: RowStop,
-) -> Stopped {
+) -> Stopped
+    ensures { Refuses result (IsRowStop file (length (rows_of bytes.now)) row stop) }
+{
     let RowStop::Broken(cause) = stop else {
         return Stopped::NoMemory;
     };

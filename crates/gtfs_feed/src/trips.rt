@@ -1,19 +1,23 @@
 // The table of trips.
-ghost use Rattle.std.specs.Prelude.{◌≡◌, ◌<◌, ◌≤◌, ◌+◌, length, IfOk, OnOk, IfSome};
+ghost use Rattle.std.specs.Prelude.{◌≡◌, ◌<◌, ◌≤◌, ◌+◌, ◌++◌, ◌∷◌, [], None, length, IfOk, IfErr, OnOk, IfSome};
 ghost use Rattle.csv.specs.Records.{fields_of};
+ghost use Rattle.move_model.specs.declared.refusal.FileKind.TheVariants as file_kind;
+ghost use Rattle.refusals.specs.Refusal.{Tests, first_cause};
 ghost use Rattle.tables.specs.Names.{place_of};
-ghost use Rattle.tables.specs.Table.{cell_at};
+ghost use Rattle.tables.specs.Table.{cell as cell_in};
 ghost use Rattle.gtfs_feed.specs.Feed.{IsId};
-ghost use Rattle.gtfs_feed.specs.Ids.{new_id_broken};
 ghost use Rattle.gtfs_feed.specs.Kept.{IsTripTable};
+ghost use Rattle.gtfs_feed.specs.RowStops.{Breaks};
+ghost use Rattle.gtfs_feed.specs.Table.{Refuses};
+ghost use Rattle.gtfs_feed.specs.Trips as spec;
 
 use crate::FeedTrip;
 use crate::file_rows::FileRows;
-use crate::ids::check_new_id;
+use crate::ids::check_new;
 use crate::refuse::{RowStop, refuse_file};
 use move_model::{Calls, Cause, FileKind, Name, NoMemory, Stopped};
 use std::alloc::Global;
-use tables::{ByteRecord, Names, cell_at, check_id, find_column, require_column};
+use tables::{ByteRecord, Names, cell, check_id, find_column, require_column};
 
 /// The trips by the order of their names. Their calls are read later.
 #[derive(Drop)]
@@ -25,28 +29,43 @@ pub(crate) struct TripTable {
 // The columns of `trips.txt`.
 #[derive(Clone, Copy)]
 struct TripColumns {
-    service: usize,
-    id: usize,
+    service: Option<usize>,
+    id: Option<usize>,
 }
 
-fn trip_columns(header: &ByteRecord) -> Result<TripColumns, Cause> {
-    Ok(TripColumns {
-        service: require_column(0, find_column(header, b"service_id"))?,
-        id: require_column(1, find_column(header, b"trip_id"))?,
-    })
-}
-
-fn trip_row(names: &Names, columns: &TripColumns, row: &ByteRecord) -> Result<(), Cause>
-    ensures { OnOk result (new_id_broken names.now (cell_at columns.now.id (fields_of row.now)) ≡ None) }
+#[tactic(auto, unfolding(crate::specs::Trips::trip_columns))]
+fn trip_columns(header: &ByteRecord) -> TripColumns
+    ensures { result ≡ spec.trip_columns (fields_of header.now) }
 {
-    check_new_id(names, cell_at(row, columns.id))?;
-    check_id(cell_at(row, columns.service))
+    TripColumns {
+        service: find_column(header, b"service_id"),
+        id: find_column(header, b"trip_id"),
+    }
+}
+
+fn require_columns(columns: &TripColumns) -> Result<(), Cause>
+    ensures { Tests result (first_cause spec.trip_column_rules columns.now) tt }
+{
+    require_column(0, columns.service)?;
+    require_column(1, columns.id)?;
+    Ok(())
+}
+
+#[tactic(auto, unfolding(crate::specs::Trips::trip_rules))]
+fn test_row(names: &Names, columns: &TripColumns, row: &ByteRecord) -> Result<(), Cause>
+    ensures { Tests result (first_cause (spec.trip_rules columns.now names.now) (fields_of row.now)) tt }
+{
+    check_id(cell(row, columns.id))?;
+    check_new(names, cell(row, columns.id))?;
+    check_id(cell(row, columns.service))?;
+    Ok(())
 }
 
 // The number of a service, or None where no calendar names it.
 fn service_of(services: &Names, id: &[u8]) -> Option<u32>
     requires { length services.now ≤ 100000000 }
-    ensures { IfSome result (λ number. number < length services.now) }
+    ensures value { result ≡ place_of id.now services.now }
+    ensures within { IfSome result (λ number. number < length services.now) }
 {
     match services.place(id) {
         Some(place) => Some(place as u32),
@@ -67,8 +86,10 @@ impl TripTable {
         requires kept { IsTripTable (length services.now) self.old }
         requires named { IsId id.now }
         requires new { place_of id.now self.old.names ≡ None }
+
         ensures kept { OnOk result (IsTripTable (length services.now) self.new) }
-        ensures more { OnOk result (length self.new.trips.items ≡ length self.old.trips.items + 1) }
+        ensures names { OnOk result (self.new.names ≡ self.old.names ++ id.now ∷ []) }
+        ensures trips { OnOk result (self.new.trips.items ≡ self.old.trips.items ++ record { name = id.now; service = place_of service.now services.now; calls = [] } ∷ []) }
     {
         let name = Name::from_slice(alloc, id)?;
         self.names.insert(alloc, id)?;
@@ -89,12 +110,16 @@ impl TripTable {
     ) -> Result<(), RowStop>
         requires few { length services.now ≤ 100000000 }
         requires kept { IsTripTable (length services.now) self.old }
+
         ensures kept { OnOk result (IsTripTable (length services.now) self.new) }
-        ensures more { OnOk result (length self.new.trips.items ≡ length self.old.trips.items + 1) }
+        ensures holds { OnOk result (first_cause (spec.trip_rules columns.now self.old.names) (fields_of row.now) ≡ None) }
+        ensures names { OnOk result (self.new.names ≡ self.old.names ++ cell_in columns.now.id (fields_of row.now) ∷ []) }
+        ensures trips { OnOk result (self.new.trips.items ≡ self.old.trips.items ++ spec.bare_trip columns.now services.now (fields_of row.now) ∷ []) }
+        ensures broken { IfErr result (Breaks (first_cause (spec.trip_rules columns.now self.old.names) (fields_of row.now))) }
     {
-        trip_row(&self.names, columns, row)?;
-        let id = cell_at(row, columns.id);
-        self.push(alloc, services, id, cell_at(row, columns.service))?;
+        test_row(&self.names, columns, row)?;
+        let id = cell(row, columns.id);
+        self.push(alloc, services, id, cell(row, columns.service))?;
         Ok(())
     }
 }
@@ -108,12 +133,16 @@ pub(crate) fn read_trips(
     requires { length services.now ≤ 100000000 }
     ensures kept { IfOk result (IsTripTable (length services.now)) }
     ensures few { IfOk result (λ table. length table.trips.items ≤ 50000000) }
+    ensures accepted { OnOk result (spec.TripsAccepted bytes.now) }
+    ensures names { IfOk result (λ table. table.names ≡ spec.trip_ids bytes.now) }
+    ensures trips { IfOk result (λ table. table.trips.items ≡ spec.bare_trips services.now bytes.now) }
+    ensures refused { IfErr result (λ stop. Refuses stop (λ file row because. (file ≡ file_kind.Trips) × spec.IsTripsRefusal bytes.now row because)) }
 {
     let mut file = FileRows::open(alloc, FileKind::Trips, bytes)?;
-    let columns = match trip_columns(&file.header) {
-        Ok(columns) => columns,
-        Err(cause) => return Err(refuse_file(FileKind::Trips, cause)),
-    };
+    let columns = trip_columns(&file.header);
+    if let Err(cause) = require_columns(&columns) {
+        return Err(refuse_file(FileKind::Trips, cause));
+    }
     let mut table = TripTable {
         names: Names::new(alloc),
         trips: Vec::new(alloc),

@@ -2,5 +2,5 @@ use Rattle.std.proofs.Common.{◌≡◌}
 use Rattle.gtfs_feed.proofs.IdLemmas.{is-id}
 use Rattle.gtfs_feed.proofs.services.date_row.Goals as goal
 
-pub returns : goal.returns
-returns c = rw c.cell_at.ensures at (is-id _ c.in_ok-check_id.ensures.0)
+pub returns-clause-named : goal.returns-clause-named
+returns-clause-named c = rw c.cell.ensures at (is-id _ c.in_ok-check_id.ensures.0)

@@ -1,9 +1,9 @@
-use Rattle.std.proofs.Common.{◌≡◌}
-use Rattle.gtfs_feed.proofs.IdLemmas.{new-id}
+use Rattle.std.proofs.Common.{◌≡◌, ◌∙◌}
+use Rattle.gtfs_feed.proofs.CalendarTable.{once}
 use Rattle.gtfs_feed.proofs.services.ServiceTable.add_week.Goals as goal
 
 pub push-requires-clause-named : goal.push-requires-clause-named
-push-requires-clause-named c = rw c.cell_at-id.ensures (new-id _ _ c.in_ok-week.ensures).0
+push-requires-clause-named c = rw c.cell-id.ensures (once _ _ _ c.in_ok-week.ensures.0).0
 
 pub push-requires-clause-new : goal.push-requires-clause-new
-push-requires-clause-new c = rw c.cell_at-id.ensures (new-id _ _ c.in_ok-week.ensures).1
+push-requires-clause-new c = rw c.cell-id.ensures (once _ _ _ c.in_ok-week.ensures.0).1

@@ -1,9 +1,14 @@
-use Rattle.std.proofs.Common.{◌≡◌}
+use Rattle.std.proofs.Common.{◌≡◌, ◌∙◌}
+use Rattle.gtfs_feed.specs.Stops.{stop_rules}
 use Rattle.gtfs_feed.proofs.IdLemmas.{new-id}
+use Rattle.gtfs_feed.proofs.StopsTable.{once}
 use Rattle.gtfs_feed.proofs.stops.StopTable.add.Goals as goal
 
+pub push_other-requires-clause-new : goal.push_other-requires-clause-new
+push_other-requires-clause-new c = rw c.cell-id.ensures (once _ _ _ c.in_ok-position.ensures.0).1
+
 pub push-requires-clause-named : goal.push-requires-clause-named
-push-requires-clause-named c = rw c.cell_at-id.ensures (new-id _ _ c.in_ok-position.ensures.new).0
+push-requires-clause-named c = rw c.cell-id.ensures (once _ _ _ c.in_ok-position.ensures.0).0
 
 pub push-requires-clause-new : goal.push-requires-clause-new
-push-requires-clause-new c = rw c.cell_at-id.ensures (new-id _ _ c.in_ok-position.ensures.new).1
+push-requires-clause-new c = rw c.cell-id.ensures (once _ _ _ c.in_ok-position.ensures.0).1

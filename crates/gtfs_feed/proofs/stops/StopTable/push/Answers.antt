@@ -12,3 +12,6 @@ returns-clause-kept c =
     (inserted _ _ _ _ _ c.in_ok-insert.ensures.added c.requires.new c.in_ok-insert.ensures.names)
     c.in_ok-push.ensures.ok
     (rw c.len-number.ensures at c.in_ok-push-2.ensures.ok)
+
+pub returns-clause-names : goal.returns-clause-names
+returns-clause-names c = inserted _ _ _ _ _ c.in_ok-insert.ensures.added c.requires.new c.in_ok-insert.ensures.names
