@@ -51,31 +51,36 @@ two_more : (walk : List NodeNo) (i : ℕ) (d : NodeNo) → i + 1 < length walk
 two_more walk i d within =
     drop_more walk i d (omega arith) ∙ ap (λ vs. get_or walk i d ∷ vs) (drop_more walk (i + 1) d within)
 
-pub walk_on : (n : Network) (walk : List NodeNo) (b : NodeNo) (end i second : ℕ) (d : NodeNo) → i + 1 < length walk
-    → HasWalked n walk b end i second
-    → HasWalked n walk b end (i + 1) (second + least_seconds n.arcs (get_or walk i d) (get_or walk (i + 1) d))
-walk_on n walk b end i second d within was =
+pub walk_on : (n : Network) (walk : List NodeNo) (b : NodeNo) (end i second ends : ℕ) (d : NodeNo) → i + 1 < length walk
+    → HasWalked n walk b end i second → ends ≡ second + least_seconds n.arcs (get_or walk i d) (get_or walk (i + 1) d)
+    → HasWalked n walk b end (i + 1) ends
+walk_on n walk b end i second ends d within was is =
     let arc = first_arc (subst (λ vs. IsWalk (streets n) was.at vs b was.left) (two_more walk i d within) was.is_walk) in
     let e = least_seconds_is n.arcs (get_or walk i d) (get_or walk (i + 1) d) arc.seconds arc.arc in
     record {
       at = get_or walk (i + 1) d;
       left = arc.left;
       is_walk = subst (λ vs. IsWalk (streets n) (get_or walk (i + 1) d) vs b arc.left) (sym (drop_more walk (i + 1) d within)) arc.rest;
-      ends = omega (arith, e, arc.sum, was.ends);
+      ends = omega (arith, e, arc.sum, was.ends, is);
     }
 
+node_eq : (a b : NodeNo) → a.0 ≡ b.0 → a ≡ b
+node_eq a b e = ap (λ (k : ℕ). let v : NodeNo = record { 0 = k } in v) e
+
 -- the rows from one place on are that of the arc there and those from the next place on
-pub walk_records-drop : (q j : ℕ) (arcs : List Arc) (walk : List NodeNo) (i second ends : ℕ) (d : NodeNo) → i + 1 < length walk
+pub walk_records-drop : (q j : ℕ) (arcs : List Arc) (walk : List NodeNo) (i second ends : ℕ) (d from to : NodeNo) → i + 1 < length walk
+    → from.0 ≡ (get_or walk i d).0 → to.0 ≡ (get_or walk (i + 1) d).0
     → ends ≡ second + least_seconds arcs (get_or walk i d) (get_or walk (i + 1) d)
-    → walk_records q j arcs (drop i walk) second
-    ≡ walk_record q j (get_or walk i d) second (get_or walk (i + 1) d) ends ∷ walk_records q j arcs (drop (i + 1) walk) ends
-walk_records-drop q j arcs walk i second ends d within is =
+    → walk_records q j arcs (drop i walk) second ≡ walk_record q j from second to ends ∷ walk_records q j arcs (drop (i + 1) walk) ends
+walk_records-drop q j arcs walk i second ends d from to within from_is to_is is =
     let v = get_or walk i d in
     let w = get_or walk (i + 1) d in
-    subst (λ e. walk_records q j arcs (drop i walk) second ≡ walk_record q j v second w e ∷ walk_records q j arcs (drop (i + 1) walk) e) (sym is)
-    (ap (λ vs. walk_records q j arcs vs second) (two_more walk i d within)
+    let after = ap (λ vs. walk_records q j arcs vs second) (two_more walk i d within)
     ∙ ap (λ vs. walk_record q j v second w (second + least_seconds arcs v w) ∷ walk_records q j arcs vs (second + least_seconds arcs v w))
-    (sym (drop_more walk (i + 1) d within)))
+    (sym (drop_more walk (i + 1) d within)) in
+    subst (λ x. walk_records q j arcs (drop i walk) second ≡ walk_record q j x second to ends ∷ walk_records q j arcs (drop (i + 1) walk) ends) (sym (node_eq from v from_is))
+    (subst (λ x. walk_records q j arcs (drop i walk) second ≡ walk_record q j v second x ends ∷ walk_records q j arcs (drop (i + 1) walk) ends) (sym (node_eq to w to_is))
+    (subst (λ e. walk_records q j arcs (drop i walk) second ≡ walk_record q j v second w e ∷ walk_records q j arcs (drop (i + 1) walk) e) (sym is) after))
 
 short_walk : (q j : ℕ) (arcs : List Arc) (vs : List NodeNo) (second : ℕ) → length vs ≤ 1 → walk_records q j arcs vs second ≡ []
 short_walk q j arcs [] second few = refl

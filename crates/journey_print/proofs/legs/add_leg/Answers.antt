@@ -1,4 +1,4 @@
-use Rattle.std.proofs.Common.{◌∙◌, ◌+◌, ◌<◌, ◌^◌, ◌++◌, sym, ap, subst, arith}
+use Rattle.std.proofs.Common.{◌+◌, ◌<◌, ◌^◌, ◌++◌, sym, ap, subst, arith}
 use Rattle.move_model.specs.declared.network.Call.{Call}
 use Rattle.journey_print.specs.Legs.{walk_records, ride_record}
 use Rattle.journey_print.specs.Records.{HasText, records_text}
@@ -15,7 +15,7 @@ returns c = λ a b m on off walk is late.
     let same = ride_calls n c.args.ride on off trip boards leaves is c.in-Some.ensures c.in-Some-get.ensures c.in-Some-get-2.ensures in
     let small : c.args.begin + m < 2 ^ 64 = omega (arith, late, ap (λ (x : Call). x.dep) same.0, c.add_ride.ensures.small) in
     let rows = walk_records c.args.number c.args.journey n.arcs c.args.walk.now c.args.begin in (
-      c.from.ensures ∙ sym (ap (λ (x : Call). x.arr) same.1),
+      omega (arith, c.from.ensures, ap (λ (x : Call). x.arr) same.1),
       λ text h.
           subst (λ row. HasText c.add_ride.new.out (text ++ records_text (rows ++ row)))
           (sym (ride_records-is c.args.number c.args.journey n c.args.ride trip boards leaves c.in-Some.ensures c.in-Some-get.ensures c.in-Some-get-2.ensures))

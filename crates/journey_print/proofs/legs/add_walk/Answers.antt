@@ -1,7 +1,7 @@
-use Rattle.std.proofs.Common.{◌≡◌, ◌+◌, ◌<◌, ◌≤◌, length, get_or, refl, sym, subst, arith}
+use Rattle.std.proofs.Common.{◌≡◌, ◌+◌, ◌<◌, ◌≤◌, length, get_or, refl, arith}
 use Rattle.move_model.specs.declared.network.NodeNo.{NodeNo}
 use Rattle.journey_print.specs.Legs.{least_seconds}
-use Rattle.journey_print.proofs.LegLemmas.{HasWalked, walk_on, walk_records-drop, walk_records-end}
+use Rattle.journey_print.proofs.LegLemmas.{walk_on, walk_records-drop, walk_records-end}
 use Rattle.journey_print.proofs.WritingLemmas.{left_is, none_written, row_written, all_written}
 use Rattle.journey_print.proofs.legs.add_walk.Goals as goal
 
@@ -21,13 +21,15 @@ loop-i-preserved c = λ a b m is small.
     let i = c.loop-i.i in
     let was = c.loop-i.invariant a b m is small in
     let within : c.loop-i.i + 1 < length c.args.walk.now = omega arith in
-    let on = walk_on n walk b (c.args.begin + m) i c.loop-i.begins no_node within was.0 in
+    let on = walk_on n walk b (c.args.begin + m) i c.loop-i.begins _ no_node within was.0 refl in
     let ends : c.arc_end-ends.result ≡ c.loop-i.begins + least_seconds c.args.network.now.arcs (get_or c.args.walk.now c.loop-i.i no_node) (get_or c.args.walk.now (c.loop-i.i + 1) no_node) =
     c.arc_end-ends.ensures (omega (arith, on.ends, small)) in (
-      subst (λ k. HasWalked n walk b (c.args.begin + m) (i + 1) k) (sym ends) on,
+      walk_on n walk b (c.args.begin + m) i c.loop-i.begins _ no_node within was.0 (omega (arith, ends)),
       λ text h.
           row_written _ _ _ _ _ _ text
-          (left_is (walk_records-drop c.args.number c.args.journey n.arcs walk i c.loop-i.begins _ no_node within ends) (was.1 text h))
+          (left_is
+          (walk_records-drop c.args.number c.args.journey n.arcs walk i c.loop-i.begins _ no_node _ _ within (omega arith) (omega arith) (omega (arith, ends)))
+          (was.1 text h))
           c.in_ok-add_arc.ensures,
     )
 
