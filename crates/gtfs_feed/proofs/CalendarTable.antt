@@ -86,8 +86,15 @@ all bytes file table p end =
 
 pub few : (bytes : List ℕ) (file : FileRows) (table : ServiceTable) → CalendarProgress bytes file table → length table.services.items ≤ 50000000
 few bytes file table p =
-    omega (arith, p.progress.reads.few, p.progress.reads.within, ap length p.services, length-map (take file.number (rows_of bytes)) (week_service (calendar_columns (header_of bytes))),
-      rw p.progress.of_bytes at p.progress.reads.within, length-take-le file.number (rows_of bytes) (rw p.progress.of_bytes at p.progress.reads.within))
+    omega (
+      arith,
+      p.progress.reads.few,
+      p.progress.reads.within,
+      ap length p.services,
+      length-map (take file.number (rows_of bytes)) (week_service (calendar_columns (header_of bytes))),
+      rw p.progress.of_bytes at p.progress.reads.within,
+      length-take-le file.number (rows_of bytes) (rw p.progress.of_bytes at p.progress.reads.within),
+    )
 
 -- a row was not taken
 pub row_refused : (bytes : List ℕ) (old new : FileRows) (table : ServiceTable) (c : CalendarColumns) (row : List (List ℕ)) (row_stop : RowStop) (stop : Stopped)

@@ -112,10 +112,10 @@ more bytes stops trips count old new kept grown c row p r columns fields holds s
       long = same ∙ p.long;
       kept_stand = stand;
       calls = λ k d lt'.
-        let inside : k < length kept = omega (arith, same) in
-        added k d inside
-        ∙ ap (λ (xs : List KeptCall). xs ++ calls_of_row (call_columns (header_of bytes)) stops trips k new.number (row_at (rows_of bytes) old.number)) (p.calls k d inside)
-        ∙ rw up (sym (rw number at (calls-push (call_columns (header_of bytes)) stops trips k (take old.number (rows_of bytes)) 0 (row_at (rows_of bytes) old.number))));
+          let inside : k < length kept = omega (arith, same) in
+          added k d inside
+          ∙ ap (λ (xs : List KeptCall). xs ++ calls_of_row (call_columns (header_of bytes)) stops trips k new.number (row_at (rows_of bytes) old.number)) (p.calls k d inside)
+          ∙ rw up (sym (rw number at (calls-push (call_columns (header_of bytes)) stops trips k (take old.number (rows_of bytes)) 0 (row_at (rows_of bytes) old.number))));
     }
 
 -- all rows are read
@@ -133,7 +133,7 @@ stand bytes stops trips count file kept p k d lt = let h = p.kept_stand k d lt i
 
 -- a row was not taken
 pub row_refused : (bytes : List ℕ) (stops : StopRows) (trips : List (List ℕ)) (count : ℕ) (old new : FileRows) (kept : List (Vec KeptCall Global)) (c : CallColumns) (row : List (List ℕ))
-      (row_stop : RowStop) (stop : Stopped)
+    (row_stop : RowStop) (stop : Stopped)
     → CallsProgress bytes stops trips count old kept → first_cause call_column_rules (call_columns (header_of bytes)) ≡ None → ReadsRow old new → c ≡ call_columns (header_of bytes)
     → fields_of new.row ≡ row → Breaks (first_cause (call_rules c stops trips) row) row_stop
     → Refuses stop (IsRowStop new.file (length (rows_of new.bytes.now)) new.number row_stop)

@@ -71,15 +71,21 @@ all bytes ids trips file copies p end =
 pub few : (bytes : List ℕ) (ids : List (List ℕ)) (trips : List FeedTrip) (file : FileRows) (copies : List CopyRow) → CopiesProgress bytes ids trips file copies → length copies ≤ 50000000
 few bytes ids trips file copies p =
     let within = rw p.progress.of_bytes at p.progress.reads.within in
-    omega (arith, p.progress.reads.few, within, ap length p.copies_are, length-map (take file.number (rows_of bytes)) (copy_of (copy_columns (header_of bytes)) ids),
-      length-take-le file.number (rows_of bytes) within)
+    omega (
+      arith,
+      p.progress.reads.few,
+      within,
+      ap length p.copies_are,
+      length-map (take file.number (rows_of bytes)) (copy_of (copy_columns (header_of bytes)) ids),
+      length-take-le file.number (rows_of bytes) within,
+    )
 
 -- a row was not taken
 pub row_refused : (bytes : List ℕ) (ids : List (List ℕ)) (trips : List FeedTrip) (old new : FileRows) (copies : List CopyRow) (c : CopyColumns) (row : List (List ℕ)) (row_stop : RowStop)
-      (stop : Stopped)
+    (stop : Stopped)
     → CopiesProgress bytes ids trips old copies → first_cause copy_column_rules (copy_columns (header_of bytes)) ≡ None → ReadsRow old new → c ≡ copy_columns (header_of bytes)
     → fields_of new.row ≡ row → Breaks (copy_broken c ids trips row) row_stop → Refuses stop (IsRowStop new.file (length (rows_of new.bytes.now)) new.number row_stop)
     → RefusesTable file_kind.Frequencies (first_cause copy_column_rules (copy_columns (header_of bytes))) (rows_of bytes)
-      (λ i. copy_broken (copy_columns (header_of bytes)) ids trips (row_at (rows_of bytes) i)) stop
+    (λ i. copy_broken (copy_columns (header_of bytes)) ids trips (row_at (rows_of bytes) i)) stop
 row_refused bytes ids trips old new copies c row row_stop stop p there r columns fields breaks h =
     progress.row file_kind.Frequencies _ bytes _ old new row_stop stop p.progress there r (rw (next bytes ids trips old new copies c row _ p r columns fields refl) breaks) h

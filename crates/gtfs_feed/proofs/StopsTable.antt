@@ -56,12 +56,13 @@ unfolding numbers_behind stops_behind
 numbers-push c [] n m row = let z : n + 0 ≡ n = omega arith in rw z (one-of (is_stop (cell c.kind row)) (Some n) None [])
 numbers-push c (first ∷ rows) n m row =
     elim (is_stop (cell c.kind first)) as (λ b.
-      (if b then Some n ∷ numbers_behind c (n + 1) (rows ++ row ∷ []) else None ∷ numbers_behind c n (rows ++ row ∷ []))
-      ≡ (if b then Some n ∷ numbers_behind c (n + 1) rows else None ∷ numbers_behind c n rows)
-        ++ (if is_stop (cell c.kind row) then Some (n + length (if b then stop_of c (m + 1) first ∷ stops_behind c (m + 1) rows else stops_behind c (m + 1) rows)) else None) ∷ []) [
-      true ↦ let up : n + suc (length (stops_behind c (m + 1) rows)) ≡ n + 1 + length (stops_behind c (m + 1) rows) = omega arith in
-        rw up (ap (λ (rest : List (Option ℕ)). Some n ∷ rest) (numbers-push c rows (n + 1) (m + 1) row))
-    | false ↦ ap (λ (rest : List (Option ℕ)). None ∷ rest) (numbers-push c rows n (m + 1) row) ]
+    (if b then Some n ∷ numbers_behind c (n + 1) (rows ++ row ∷ []) else None ∷ numbers_behind c n (rows ++ row ∷ []))
+    ≡ (if b then Some n ∷ numbers_behind c (n + 1) rows else None ∷ numbers_behind c n rows)
+    ++ (if is_stop (cell c.kind row) then Some (n + length (if b then stop_of c (m + 1) first ∷ stops_behind c (m + 1) rows else stops_behind c (m + 1) rows)) else None) ∷ []) [
+      | true ↦ let up : n + suc (length (stops_behind c (m + 1) rows)) ≡ n + 1 + length (stops_behind c (m + 1) rows) = omega arith in
+          rw up (ap (λ (rest : List (Option ℕ)). Some n ∷ rest) (numbers-push c rows (n + 1) (m + 1) row))
+      | false ↦ ap (λ (rest : List (Option ℕ)). None ∷ rest) (numbers-push c rows n (m + 1) row)
+    ]
 
 -- the table of one row more
 pub table-more : (c : StopColumns) (rows : List (List (List ℕ))) (n number : ℕ) (old new : StopTable) → n < length rows → number ≡ n + 1
@@ -79,7 +80,7 @@ table-more c rows n number old new lt is adds so_far =
 
 table-none : (c : StopColumns) (table : StopTable) → table.names ≡ [] → table.numbers ≡ [] → table.stops ≡ [] → IsStopTableOf c [] table
 unfolding stops_behind numbers_behind
-table-none c table names numbers stops = record { names = names; numbers = numbers; stops = stops; }
+table-none c table names numbers stops = record { names = names; numbers = numbers; stops = stops }
 
 stops-grow : {X : Type 0} (b : Bool) (xs : List X) (x : X) (n : ℕ) → length xs ≤ n → length (xs ++ (if b then x ∷ [] else [])) ≤ n + 1
 stops-grow true xs x n le = omega (arith, length-append xs (x ∷ []))
@@ -150,7 +151,7 @@ pub of_rows : (bytes : List ℕ) (stop : Stopped)
     → Refuses stop (λ file row because. (file ≡ file_kind.Stops) × IsStopsRefusal bytes row because)
 of_rows bytes stop h =
     weaker stop (λ file row because. (file ≡ file_kind.Stops)
-      × IsTableRefusal (first_cause stop_column_rules (stop_columns (header_of bytes))) (rows_of bytes) (stop_broken (stop_columns (header_of bytes)) (rows_of bytes)) row because)
+    × IsTableRefusal (first_cause stop_column_rules (stop_columns (header_of bytes))) (rows_of bytes) (stop_broken (stop_columns (header_of bytes)) (rows_of bytes)) row because)
     (λ file row because. (file ≡ file_kind.Stops) × IsStopsRefusal bytes row because) h (λ file row because p. (p.0, inl p.1))
 
 -- the number of stops is refused behind all rows

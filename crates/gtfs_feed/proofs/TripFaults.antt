@@ -91,14 +91,14 @@ finished-short kept trip short =
 pub finished-filled : (kept sorted : List KeptCall) (old new : FeedTrip) → 2 ≤ length kept → IsTripOrder kept sorted → HoldTogether sorted → IsFilled sorted new.calls
     → new.name ≡ old.name → new.service ≡ old.service → IsOutcome kept old new None
 finished-filled kept sorted old new goes order holds filled named served = (
-    record {
-      named = named;
-      served = served;
-      goes = λ g. record { sorted = sorted; order = order; filled = filled };
-      passed = λ few. absurd (omega arith);
-    },
-    λ g. record { sorted = sorted; order = order; together = holds },
-  )
+  record {
+    named = named;
+    served = served;
+    goes = λ g. record { sorted = sorted; order = order; filled = filled };
+    passed = λ few. absurd (omega arith);
+  },
+  λ g. record { sorted = sorted; order = order; together = holds },
+)
 
 -- a trip with a fault
 pub faulty : (kept sorted : List KeptCall) (old new : FeedTrip) (fault : Fault) → 2 ≤ length kept → IsTripOrder kept sorted → IsFirstFault sorted (length sorted) (Some fault)

@@ -83,8 +83,15 @@ all bytes services file table p end =
 
 pub few : (bytes : List ℕ) (services : List (List ℕ)) (file : FileRows) (table : TripTable) → TripsProgress bytes services file table → length table.trips.items ≤ 50000000
 few bytes services file table p =
-    omega (arith, p.progress.reads.few, p.progress.reads.within, ap length p.trips, length-map (take file.number (rows_of bytes)) (bare_trip (trip_columns (header_of bytes)) services),
-      rw p.progress.of_bytes at p.progress.reads.within, length-take-le file.number (rows_of bytes) (rw p.progress.of_bytes at p.progress.reads.within))
+    omega (
+      arith,
+      p.progress.reads.few,
+      p.progress.reads.within,
+      ap length p.trips,
+      length-map (take file.number (rows_of bytes)) (bare_trip (trip_columns (header_of bytes)) services),
+      rw p.progress.of_bytes at p.progress.reads.within,
+      length-take-le file.number (rows_of bytes) (rw p.progress.of_bytes at p.progress.reads.within),
+    )
 
 -- a row was not taken
 pub row_refused : (bytes : List ℕ) (services : List (List ℕ)) (old new : FileRows) (table : TripTable) (c : TripColumns) (row : List (List ℕ)) (row_stop : RowStop) (stop : Stopped)

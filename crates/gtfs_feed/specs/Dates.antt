@@ -6,7 +6,7 @@
 --     with_row c row services               the services with the exception of a row
 --     dated c rows services                 the services with the exceptions of rows
 --     DatesAccepted, IsDatesRefusal         no rule is broken; the first that is
-use Rattle.std.specs.Prelude.{ℕ, ◌==◌, Bool, true, false, List, [], ◌∷◌, ◌++◌, length, take, map, codes, slice_index_or, slice_set, Option, Some, None, is_some, unwrap_or, if◌then◌else◌}
+use Rattle.std.specs.Prelude.{ℕ, ◌==◌, Bool, false, List, [], ◌∷◌, ◌++◌, length, take, map, codes, slice_index_or, slice_set, Option, is_some, unwrap_or, if◌then◌else◌}
 use Rattle.refusals.specs.Refusal.{first_cause, or_then}
 use Rattle.move_model.specs.declared.refusal.Cause.{Cause}
 use Rattle.tables.specs.Names.{place_of}

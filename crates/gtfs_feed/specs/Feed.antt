@@ -2,12 +2,11 @@
 --     IsFeed feed                each service, trip and stop that is named by number exists, and seconds never fall
 --     IsId name                  a name has 1 to 255 bytes
 --     IsCopyStart row second     a copy of the row's trip leaves at this second
-use Rattle.std.specs.Prelude.{◌≡◌, ◌≢◌, ℕ, ◌+◌, ◌-◌, ◌*◌, ◌<◌, ◌≤◌, List, [], ◌∷◌, length, slice_get, All, AllPairs, Option, Some, None, IfSome, is_some}
+use Rattle.std.specs.Prelude.{◌≡◌, ◌≢◌, ℕ, ◌+◌, ◌-◌, ◌*◌, ◌<◌, ◌≤◌, List, [], ◌∷◌, length, slice_get, All, AllPairs, Some, IfSome, is_some}
 use Rattle.std.specs.List.{AllAdjacentBelow}
 use Rattle.move_model.specs.declared.network.Call.{Call}
 use Rattle.gtfs_feed.specs.declared.feed.Feed.{Feed}
 use Rattle.gtfs_feed.specs.declared.feed.FeedStop.{FeedStop}
-use Rattle.gtfs_feed.specs.declared.feed.Service.{Service}
 use Rattle.gtfs_feed.specs.declared.feed.FeedTrip.{FeedTrip}
 use Rattle.gtfs_feed.specs.declared.feed.CopyRow.{CopyRow}
 

@@ -4,7 +4,7 @@
 --     IsTripTable table n        its trips have ids and services below n, and as many names
 --     AreKept n rows kept        the calls of each trip, of so many rows, are at stops below n and at seconds of a time
 --     IsRising calls             no second falls from call to call
-use Rattle.std.specs.Prelude.{◌≡◌, ◌≢◌, ℕ, ◌<◌, ◌≤◌, List, [], length, All, AllPairs, Contains, Vec, Option, IfSome}
+use Rattle.std.specs.Prelude.{◌≡◌, ◌≢◌, ℕ, ◌<◌, ◌≤◌, List, [], length, All, AllPairs, Contains, Vec, IfSome}
 use Rattle.std.specs.declared.alloc.Global.{Global}
 use Rattle.std.specs.List.{AllAdjacentBelow}
 use Rattle.move_model.specs.declared.network.Call.{Call}

@@ -235,8 +235,9 @@ fn call_row(
 ) -> Result<RowCall, Cause>
     requires { IsStopTable stops.now }
     ensures value { Tests result (first_cause (spec.call_rules columns.now (rows_in stops.now) trips.now) (fields_of row.now)) (record {
-        trip = unwrap_or (place_of (cell_in columns.now.trip (fields_of row.now)) trips.now) 0;
-        call = spec.call_found columns.now (rows_in stops.now) (number_in (cell_in columns.now.sequence (fields_of row.now))) number (fields_of row.now) }) }
+      trip = unwrap_or (place_of (cell_in columns.now.trip (fields_of row.now)) trips.now) 0;
+      call = spec.call_found columns.now (rows_in stops.now) (number_in (cell_in columns.now.sequence (fields_of row.now))) number (fields_of row.now);
+    }) }
     ensures place { IfOk result (λ found. place_of (cell_in columns.now.trip (fields_of row.now)) trips.now ≡ Some found.trip) }
     ensures within { IfOk result (λ found. found.trip < length trips.now) }
     ensures kept { IfOk result (λ found. IfSome found.call (IsKept (length stops.now.stops))) }

@@ -148,11 +148,7 @@ fn add_copy(
 }
 
 // Reads `frequencies.txt`.
-fn read_copies(
-    alloc: Global,
-    bytes: &[u8],
-    table: &TripTable,
-) -> Result<CopyRows, Stopped>
+fn read_copies(alloc: Global, bytes: &[u8], table: &TripTable) -> Result<CopyRows, Stopped>
     requires each { length table.now.names ≡ length table.now.trips.items }
     requires few { length table.now.trips.items ≤ 50000000 }
     requires rises { All (λ trip. IsRising trip.calls) table.now.trips.items }

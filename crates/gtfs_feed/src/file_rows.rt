@@ -24,7 +24,11 @@ pub(crate) struct FileRows<'a> {
 }
 
 impl FileRows<'_> {
-    pub(crate) fn open<'a>(alloc: Global, file: FileKind, bytes: &'a [u8]) -> Result<FileRows<'a>, Stopped>
+    pub(crate) fn open<'a>(
+        alloc: Global,
+        file: FileKind,
+        bytes: &'a [u8],
+    ) -> Result<FileRows<'a>, Stopped>
         ensures reads { IfOk result IsReading }
         ensures begins { IfOk result (λ rows. (rows.file ≡ file) × (rows.bytes.now ≡ bytes.now) × (rows.number ≡ 0)) }
         ensures wants { IfErr result (λ stop. stop ≡ Stopped.NoMemory) }

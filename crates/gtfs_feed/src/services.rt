@@ -110,13 +110,7 @@ fn days(columns: &CalendarColumns, row: &ByteRecord) -> Result<[bool; 7], Cause>
     let saturday = runs(cell(row, columns.saturday))?;
     let sunday = runs(cell(row, columns.sunday))?;
     Ok([
-        monday,
-        tuesday,
-        wednesday,
-        thursday,
-        friday,
-        saturday,
-        sunday,
+        monday, tuesday, wednesday, thursday, friday, saturday, sunday,
     ])
 }
 
@@ -131,9 +125,10 @@ struct Week {
 #[tactic(auto, unfolding(crate::specs::Calendar::calendar_rules))]
 fn calendar_row(names: &Names, columns: &CalendarColumns, row: &ByteRecord) -> Result<Week, Cause>
     ensures { Tests result (first_cause (weeks.calendar_rules columns.now names.now) (fields_of row.now)) (record {
-        days = weeks.days_of columns.now (fields_of row.now);
-        first = weeks.date_in (cell_in columns.now.start (fields_of row.now));
-        last = weeks.date_in (cell_in columns.now.end (fields_of row.now)) }) }
+      days = weeks.days_of columns.now (fields_of row.now);
+      first = weeks.date_in (cell_in columns.now.start (fields_of row.now));
+      last = weeks.date_in (cell_in columns.now.end (fields_of row.now));
+    }) }
 {
     check_id(cell(row, columns.id))?;
     check_new(names, cell(row, columns.id))?;
@@ -182,8 +177,9 @@ struct Exception {
 #[tactic(auto, unfolding(crate::specs::Dates::date_rules))]
 fn date_row(columns: &DateColumns, row: &ByteRecord) -> Result<Exception, Cause>
     ensures value { Tests result (first_cause (exceptions.date_rules columns.now) (fields_of row.now)) (record {
-        date = weeks.date_in (cell_in columns.now.date (fields_of row.now));
-        added = number_in (cell_in columns.now.kind (fields_of row.now)) == 1 }) }
+      date = weeks.date_in (cell_in columns.now.date (fields_of row.now));
+      added = number_in (cell_in columns.now.kind (fields_of row.now)) == 1;
+    }) }
     ensures named { OnOk result (IsId (cell_in columns.now.id (fields_of row.now))) }
 {
     check_id(cell(row, columns.id))?;

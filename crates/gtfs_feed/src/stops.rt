@@ -156,10 +156,7 @@ fn check_stops(table: StopTable) -> Result<StopTable, Stopped>
 {
     let stops = table.stops.len();
     if stops > 200_000 {
-        return Err(refuse_file(
-            FileKind::Stops,
-            Cause::Limit(stops as u64),
-        ));
+        return Err(refuse_file(FileKind::Stops, Cause::Limit(stops as u64)));
     }
     Ok(table)
 }

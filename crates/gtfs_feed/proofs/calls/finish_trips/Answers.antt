@@ -20,9 +20,9 @@ loop-place-preserved c =
     let inside : c.loop-place.place < length c.args.kept.items = omega (arith, inv.same, c.requires.each) in
     let one : (calls : ℕ → List KeptCall) → IsListOf c.args.kept.items calls → IsOutcome (calls c.loop-place.place) c.index_mut-in-loop-place.result.now c.finish_trip.new.trip c.in_ok-finish_trip.field-0 =
     λ calls list.
-      let here : c.replace-calls.result.items ≡ calls c.loop-place.place =
-      ap (λ (v : Vec KeptCall Global). v.items) (taken ∙ inv.untouched c.loop-place.place c.index_mut.result.now (omega arith)) ∙ list c.loop-place.place c.index_mut.result.now inside in
-      rw here at c.in_ok-finish_trip.ensures.outcome in
+    let here : c.replace-calls.result.items ≡ calls c.loop-place.place =
+    ap (λ (v : Vec KeptCall Global). v.items) (taken ∙ inv.untouched c.loop-place.place c.index_mut.result.now (omega arith)) ∙ list c.loop-place.place c.index_mut.result.now inside in
+    rw here at c.in_ok-finish_trip.ensures.outcome in
     record {
       long = length-set c.loop-place.kept.items c.loop-place.place c.replace-calls.new.dest ∙ inv.long ∙ sym (length-set c.loop-place.trips.items c.loop-place.place c.finish_trip.new.trip);
       same = length-set c.loop-place.trips.items c.loop-place.place c.finish_trip.new.trip ∙ inv.same;
@@ -32,15 +32,15 @@ loop-place-preserved c =
       untouched = λ k d le. get_or-set_other c.loop-place.kept.items c.loop-place.place k c.replace-calls.new.dest d (omega arith) ∙ inv.untouched k d (omega arith);
       outcomes = λ calls list. rw c.least-fault.ensures (outcomes-more calls c.loop-place.place c.loop-place.fault c.in_ok-finish_trip.field-0 _ _ (inv.outcomes calls list) (one calls list));
       trips = λ calls list none k d lt.
-        let both = lesser-none c.loop-place.fault c.in_ok-finish_trip.field-0 (sym c.least-fault.ensures ∙ none) in
-        elim (cases_eq k c.loop-place.place) [
-          | inl here ↦ rw (here, get_or-set_same c.loop-place.trips.items c.loop-place.place c.finish_trip.new.trip d (omega (arith, inv.same)))
-              (let old : c.index_mut-in-loop-place.result.now ≡ get_or c.args.trips.now.items c.loop-place.place d =
-              read ∙ inv.rest c.loop-place.place c.index_mut-in-loop-place.result.now (omega arith)
-              ∙ sym (get_or_default c.args.trips.now.items c.loop-place.place d c.index_mut-in-loop-place.result.now (omega (arith, inv.same))) in
-              rw old at (rw both.1 at (one calls list)).0)
-          | inr apart ↦ rw get_or-set_other (inv.trips calls list both.0 k d (omega arith))
-        ];
+          let both = lesser-none c.loop-place.fault c.in_ok-finish_trip.field-0 (sym c.least-fault.ensures ∙ none) in
+          elim (cases_eq k c.loop-place.place) [
+            | inl here ↦ rw (here, get_or-set_same c.loop-place.trips.items c.loop-place.place c.finish_trip.new.trip d (omega (arith, inv.same)))
+                (let old : c.index_mut-in-loop-place.result.now ≡ get_or c.args.trips.now.items c.loop-place.place d =
+                read ∙ inv.rest c.loop-place.place c.index_mut-in-loop-place.result.now (omega arith)
+                ∙ sym (get_or_default c.args.trips.now.items c.loop-place.place d c.index_mut-in-loop-place.result.now (omega (arith, inv.same))) in
+                rw old at (rw both.1 at (one calls list)).0)
+            | inr apart ↦ rw get_or-set_other (inv.trips calls list both.0 k d (omega arith))
+          ];
       finished = λ services bare k d lt. elim (cases_eq k c.loop-place.place) [
         | inl here ↦ rw (here, get_or-set_same c.loop-place.trips.items c.loop-place.place c.finish_trip.new.trip d (omega (arith, inv.same)))
             (c.in_ok-finish_trip.ensures.kept c.args.stops services
