@@ -1,5 +1,4 @@
 -- The rows of queries, and what an answer sends.
---     IsAt query                       the query asks for one departure second
 --     AreRows n q query text           the text of the rows of query number q
 --     AreRowsFrom n q queries text     the text of the rows of queries that are numbered from q on
 --     IsPrinted n queries text         the text of the header and of the rows of all queries, in their order
@@ -16,10 +15,6 @@ use Rattle.move_model.specs.declared.query.Query.TheVariants as query
 use Rattle.move_model.specs.Found.{IsPointAnswer}
 use Rattle.move_files.specs.Outside.{SendsPrefix}
 use Rattle.journey_print.specs.Records.{header_record, point_records, record_text, records_text}
-
-abbrev pub IsAt : Query → Type 0
-IsAt (query.At from to depart limit) = Unit {0}
-IsAt (query.Range from to first last limit) = ⊥
 
 -- The pairs are the Pareto set, each with a journey that attains it; which journey is free. The rows of a range are not
 -- told yet.

@@ -5,7 +5,8 @@ ghost use Rattle.move_model.specs.Found.{IsPointAnswer};
 ghost use Rattle.move_files.specs.Outside.{Rose, SendsPrefix};
 ghost use Rattle.journey_print.specs.Legs.{IsPrintable};
 ghost use Rattle.journey_print.specs.Records.{point_records, records_text};
-ghost use Rattle.plan_core.specs.Answer.{IsAt, PrintsAll, PrintsPart, Grows, SendsRows, SendsPartOfRows};
+ghost use Rattle.query_table.specs.Queries.{IsAt};
+ghost use Rattle.plan_core.specs.Answer.{PrintsAll, PrintsPart, Grows, SendsRows, SendsPartOfRows};
 ghost use Rattle.plan_core.specs.Sent.{SendsQuery, SendsPartOfQuery, SendsQueries, SendsFirst};
 
 use crate::Compiled;

@@ -1,6 +1,6 @@
 use Rattle.std.proofs.Common.{◌≡◌, ◌+◌, [], refl, sym, subst, arith, append-nil}
 use Rattle.std.proofs.lemmas.Result.{err_from_is_err_and}
-use Rattle.plan_core.specs.Answer.{IsAt}
+use Rattle.query_table.specs.Queries.{IsAt}
 use Rattle.plan_core.specs.Answer.AreRowsFrom.{none}
 use Rattle.plan_core.proofs.SentLemmas.{grows_on, one_more, part_more}
 use Rattle.plan_core.proofs.answers.send_answers.Goals as goal

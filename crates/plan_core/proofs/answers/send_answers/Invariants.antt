@@ -1,7 +1,8 @@
 use Rattle.std.proofs.Common.{◌≡◌, ◌≤◌, take}
 use Rattle.std.specs.Prelude.{All}
 use Rattle.move_model.specs.Network.{IsNetwork, IsNumbered}
-use Rattle.plan_core.specs.Answer.{Grows, IsAt}
+use Rattle.query_table.specs.Queries.{IsAt}
+use Rattle.plan_core.specs.Answer.{Grows}
 use Rattle.plan_core.specs.Sent.{SendsQueries}
 use Rattle.plan_core.proofs.answers.send_answers.Given as goal
 
