@@ -1,5 +1,5 @@
 -- A row more of stop_times.txt.
-use Rattle.std.proofs.Common.{◌≡◌, ◌∙◌, ℕ, ◌+◌, ◌<◌, ◌≤◌, List, [], ◌∷◌, ◌++◌, length, take, get_or, All, Vec, Global, Option, Some, None, Bool, true, false, suc, refl, sym, ap, arith}
+use Rattle.std.proofs.Common.{◌≡◌, ◌∙◌, ℕ, ◌+◌, ◌<◌, List, [], ◌∷◌, ◌++◌, length, take, get_or, All, Vec, Global, Option, Some, None, Bool, true, false, suc, refl, sym, ap, arith}
 use Rattle.std.specs.Prelude.{if◌then◌else◌, ◌==◌, ◌&&◌, not}
 use Rattle.std.proofs.lemmas.List.{append-nil, take_more, take_all, length-take-le}
 use Rattle.csv.specs.Records.{fields_of}
@@ -16,7 +16,7 @@ use Rattle.gtfs_feed.specs.declared.file_rows.FileRows.{FileRows}
 use Rattle.gtfs_feed.specs.declared.refuse.RowStop.{RowStop}
 use Rattle.gtfs_feed.specs.Calls.{StopRows, call_columns, call_column_rules, call_rules, call_broken, call_found, kept_call, is_call_of, is_place, calls_of_row, calls_behind, trip_calls}
 use Rattle.gtfs_feed.specs.Ids.{is_empty}
-use Rattle.gtfs_feed.specs.Kept.{AreKept, IsKeptList}
+use Rattle.gtfs_feed.specs.Kept.{AreKept}
 use Rattle.gtfs_feed.specs.KeptCalls.{GrowsByRow, GrowsByCall, AreCallsOf}
 use Rattle.gtfs_feed.specs.Reading.{IsReading, ReadsRow}
 use Rattle.gtfs_feed.specs.RowStops.{Breaks, IsRowStop}

@@ -1,5 +1,5 @@
 -- A row more of frequencies.txt.
-use Rattle.std.proofs.Common.{◌≡◌, ◌∙◌, ℕ, ◌+◌, ◌<◌, ◌≤◌, List, [], ◌∷◌, ◌++◌, length, take, map, All, Option, Some, None, refl, sym, ap, arith}
+use Rattle.std.proofs.Common.{◌≡◌, ◌∙◌, ℕ, ◌<◌, ◌≤◌, List, [], ◌∷◌, ◌++◌, length, take, map, All, Option, None, refl, sym, ap, arith}
 use Rattle.std.proofs.lemmas.List.{take_more, take_all, map_push, length-map, length-take-le}
 use Rattle.csv.specs.Records.{fields_of}
 use Rattle.move_model.specs.declared.refusal.Cause.{Cause}

@@ -1,8 +1,5 @@
 -- What the readers of the files say of the feed.
-use Rattle.std.proofs.Common.{◌≡◌, ◌∙◌, ℕ, ◌<◌, List, length, get_or, Option, refl, sym, ap, inl, inr, arith}
-use Rattle.std.specs.Borrow.{Bor}
-use Rattle.move_model.specs.declared.refusal.Cause.{Cause}
-use Rattle.move_model.specs.declared.refusal.FileKind.{FileKind}
+use Rattle.std.proofs.Common.{◌≡◌, ◌∙◌, ℕ, ◌<◌, List, length, get_or, refl, ap, inl, inr, arith}
 use Rattle.move_model.specs.declared.refusal.FileKind.TheVariants as file_kind
 use Rattle.move_model.specs.declared.refusal.Stopped.{Stopped}
 use Rattle.tables.specs.Table.{header_of, rows_of}
@@ -12,14 +9,14 @@ use Rattle.gtfs_feed.specs.declared.stops.StopTable.{StopTable}
 use Rattle.gtfs_feed.specs.Calls.{StopRows, trip_calls}
 use Rattle.gtfs_feed.specs.Copies.{CopiesAccepted, IsCopiesRefusal}
 use Rattle.gtfs_feed.specs.Dates.{names_in}
-use Rattle.gtfs_feed.specs.FeedFiles.{stop_rows, feed_services, ids_of, AreTrips, TripsStand, CallsStand, FeedAccepted, IsFrequencyRefusal, IsFeedRefusal}
+use Rattle.gtfs_feed.specs.FeedFiles.{stop_rows, feed_services, ids_of, AreTrips, TripsStand, CallsStand, FeedAccepted, IsFeedRefusal}
 use Rattle.gtfs_feed.specs.KeptCalls.{rows_in}
-use Rattle.gtfs_feed.specs.Services.{OptionAccepted, OptionRefused, ServicesAccepted, IsServicesRefusal}
-use Rattle.gtfs_feed.specs.Stops.{stop_columns, stop_ids, stop_numbers, feed_stops, StopsAccepted, IsStopsRefusal}
+use Rattle.gtfs_feed.specs.Services.{OptionAccepted, OptionRefused}
+use Rattle.gtfs_feed.specs.Stops.{stop_columns, stop_ids, stop_numbers}
 use Rattle.gtfs_feed.specs.StopTables.{IsStopTableOf}
 use Rattle.gtfs_feed.specs.Table.{Refuses}
 use Rattle.gtfs_feed.specs.TripRules.{IsFinished, StopTimesAccepted, IsStopTimesRefusal}
-use Rattle.gtfs_feed.specs.Trips.{bare_trips, TripsAccepted, IsTripsRefusal}
+use Rattle.gtfs_feed.specs.Trips.{bare_trips}
 use Rattle.gtfs_feed.proofs.RefuseLemmas.{weaker}
 
 -- the rows of a table of stops

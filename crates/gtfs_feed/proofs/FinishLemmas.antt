@@ -1,6 +1,6 @@
 -- The calls of a trip that are tested and filled in.
-use Rattle.std.proofs.Common.{◌≡◌, ◌≢◌, ◌∙◌, ℕ, ◌+◌, ◌-◌, ◌<◌, ◌≤◌, List, [], ◌∷◌, ◌++◌, length, get_or, map, All, Vec, Global, Option, Some, None, refl, sym, ap, subst, arith}
-use Rattle.std.specs.Prelude.{IsPermutation, IfSome}
+use Rattle.std.proofs.Common.{◌≡◌, ◌∙◌, ℕ, ◌<◌, ◌≤◌, List, [], length, map, All, refl, sym, ap, subst, arith}
+use Rattle.std.specs.Prelude.{IsPermutation}
 use Rattle.std.proofs.lemmas.List.{length-map, get_or-map}
 use Rattle.std.proofs.lemmas.List.Sorted.{All-permutation}
 use Rattle.std.proofs.lemmas.List.Elements.{All-map}
@@ -10,7 +10,7 @@ use Rattle.trip_calls.specs.declared.kept.KeptCall.{KeptCall}
 use Rattle.trip_calls.specs.Filled.{IsInTime, IsTimely}
 use Rattle.gtfs_feed.specs.declared.feed.FeedTrip.{FeedTrip}
 use Rattle.gtfs_feed.specs.Feed.{IsFeedTrip}
-use Rattle.gtfs_feed.specs.Kept.{IsBareTrip, IsKept, IsKeptList, IsRising, AreKept}
+use Rattle.gtfs_feed.specs.Kept.{IsBareTrip, IsKept, IsKeptList, IsRising}
 
 unmap : {X Y : Type 0} (P : Y → Type 0) (f : X → Y) (xs : List X) → All P (map f xs) → All (λ x. P (f x)) xs
 unmap P f xs h = λ k d lt. let n : k < length (map f xs) = rw (length-map xs f) lt in subst P (get_or-map f xs k d (f d) lt) (h k (f d) n)

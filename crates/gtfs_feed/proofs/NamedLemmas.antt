@@ -1,9 +1,8 @@
 -- Names of services, and texts that were seen.
-use Rattle.std.proofs.Common.{◌≡◌, ◌∙◌, ℕ, zero, suc, ◌<◌, List, [], ◌∷◌, ◌++◌, length, get_or, Option, Some, None, Bool, true, false, refl, sym, ap, arith}
+use Rattle.std.proofs.Common.{◌≡◌, ◌∙◌, ℕ, zero, suc, ◌<◌, List, [], ◌∷◌, ◌++◌, length, get_or, Option, Some, None, Bool, false, refl, sym, ap, arith}
 use Rattle.std.specs.Prelude.{is_some, is_none, slice_set, Result, Ok, Err, OnOk, is_ok, if◌then◌else◌}
 use Rattle.std.specs.Result.{is_err}
 use Rattle.std.proofs.lemmas.List.{get_or_default}
-use Rattle.move_model.specs.declared.refusal.Cause.{Cause}
 use Rattle.move_model.specs.declared.refusal.Cause.TheVariants as cause
 use Rattle.tables.specs.Names.{place_of}
 use Rattle.gtfs_feed.specs.declared.feed.Service.{Service}

@@ -1,15 +1,13 @@
 -- The stops of a file, as its refusals.
 use Rattle.std.proofs.Common.{◌≡◌, ◌∙◌, ℕ, ◌+◌, ◌<◌, ◌≤◌, List, length, Option, Some, None, true, false, refl, sym, ap, inl, inr, arith}
-use Rattle.std.specs.Prelude.{nat_le, if◌then◌else◌}
+use Rattle.std.specs.Prelude.{nat_le}
 use Rattle.std.proofs.lemmas.Bool.Decides.{nat_tests}
 use Rattle.move_model.specs.declared.refusal.Cause.{Cause}
 use Rattle.move_model.specs.declared.refusal.Cause.TheVariants as cause
 use Rattle.move_model.specs.declared.refusal.FileKind.{FileKind}
 use Rattle.move_model.specs.declared.refusal.Stopped.{Stopped}
 use Rattle.move_model.specs.declared.refusal.Stopped.TheVariants as stopped
-use Rattle.refusals.specs.Refusal.{or_then}
 use Rattle.gtfs_feed.specs.declared.refuse.RowStop.{RowStop}
-use Rattle.gtfs_feed.specs.declared.refuse.RowStop.TheVariants as row_stop
 use Rattle.gtfs_feed.specs.RowStops.{Breaks, IsRowStop}
 use Rattle.gtfs_feed.specs.Table.{rows_broken, file_broken, IsTableRefusal, Refuses, RefusesTable}
 

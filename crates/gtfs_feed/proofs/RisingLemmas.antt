@@ -1,9 +1,8 @@
 -- Calls whose seconds never fall, and the copies of their trip.
-use Rattle.std.proofs.Common.{◌≡◌, ◌∙◌, ℕ, zero, suc, ◌+◌, ◌-◌, ◌*◌, ◌/◌, ◌<◌, ◌≤◌, List, [], ◌∷◌, length, get_or, All, Option, Some, None, Bool, true, false, refl, sym, ap, inl, inr, arith}
+use Rattle.std.proofs.Common.{◌≡◌, ℕ, zero, suc, ◌+◌, ◌-◌, ◌/◌, ◌<◌, ◌≤◌, List, [], ◌∷◌, length, get_or, All, Some, None, Bool, true, false, refl, sym, arith}
 use Rattle.std.specs.Prelude.{slice_get, IfSome, nat_lt, if◌then◌else◌}
 use Rattle.std.proofs.Math.Nat.{mul-le-mul_right}
 use Rattle.std.proofs.lemmas.Nat.{le-div}
-use Rattle.std.proofs.lemmas.Bool.{cases_lt}
 use Rattle.std.proofs.lemmas.Bool.Decides.{nat_tests}
 use Rattle.std.proofs.lemmas.List.{get_or_default}
 use Rattle.std.proofs.lemmas.Option.{slice_get-get_or, get_or_from_slice_get, slice_get_within}
@@ -11,7 +10,7 @@ use Rattle.move_model.specs.declared.network.Call.{Call}
 use Rattle.gtfs_feed.specs.declared.feed.CopyRow.{CopyRow}
 use Rattle.gtfs_feed.specs.declared.feed.FeedTrip.{FeedTrip}
 use Rattle.gtfs_feed.specs.Feed.{IsCopyStart, IsCopyRow, first_departure}
-use Rattle.gtfs_feed.specs.Frequencies.{latest_start, copy_second, last_copy_second}
+use Rattle.gtfs_feed.specs.Frequencies.{latest_start, last_copy_second}
 use Rattle.gtfs_feed.specs.Kept.{IsRising}
 
 -- a later call departs no earlier

@@ -1,5 +1,5 @@
 -- A row more of the table of stops.
-use Rattle.std.proofs.Common.{◌≡◌, ◌≢◌, ◌∙◌, ℕ, ◌+◌, ◌<◌, ◌≤◌, List, [], ◌∷◌, ◌++◌, length, get_or, All, Contains, Option, Some, None, refl, sym, ap, subst, inl, inr, ◌⊎◌, arith}
+use Rattle.std.proofs.Common.{◌≡◌, ◌≢◌, ◌∙◌, ℕ, ◌+◌, ◌<◌, ◌≤◌, List, [], ◌∷◌, ◌++◌, length, get_or, Contains, Option, Some, None, refl, ap, subst, inl, inr, ◌⊎◌, arith}
 use Rattle.std.specs.Prelude.{IfSome}
 use Rattle.std.proofs.lemmas.List.{length_push}
 use Rattle.std.proofs.lemmas.List.Elements.{All-push, Contains-append_left, Contains-append_right}
@@ -7,7 +7,7 @@ use Rattle.std.proofs.lemmas.List.Quantifiers.{all_pairs_push}
 use Rattle.tables.specs.Names.{place_of}
 use Rattle.gtfs_feed.specs.declared.feed.FeedStop.{FeedStop}
 use Rattle.gtfs_feed.specs.declared.stops.StopTable.{StopTable}
-use Rattle.gtfs_feed.specs.Feed.{IsId, IsFeedStop}
+use Rattle.gtfs_feed.specs.Feed.{IsFeedStop}
 use Rattle.gtfs_feed.specs.Kept.{IsStopTable}
 use Rattle.gtfs_feed.proofs.IdLemmas.{absent}
 

@@ -1,5 +1,5 @@
 -- A row more of stops.txt.
-use Rattle.std.proofs.Common.{◌≡◌, ◌∙◌, ℕ, ◌+◌, ◌<◌, ◌≤◌, List, [], ◌∷◌, ◌++◌, length, take, map, Option, Some, None, Bool, true, false, suc, refl, sym, ap, inl, inr, arith}
+use Rattle.std.proofs.Common.{◌≡◌, ◌∙◌, ℕ, ◌+◌, ◌<◌, ◌≤◌, List, [], ◌∷◌, ◌++◌, length, take, Option, Some, None, Bool, true, false, suc, refl, sym, ap, inl, inr, arith}
 use Rattle.std.specs.Prelude.{if◌then◌else◌, Result, Ok, Err, OnOk, IfOk, IfErr}
 use Rattle.std.proofs.lemmas.List.{take_more, take_all, map_push, length-append, length-take-le}
 use Rattle.csv.specs.Records.{fields_of}
@@ -9,7 +9,6 @@ use Rattle.move_model.specs.declared.refusal.Stopped.{Stopped}
 use Rattle.refusals.specs.Refusal.{first_cause}
 use Rattle.tables.specs.Names.{place_of}
 use Rattle.tables.specs.Table.{header_of, rows_of, row_at, cell}
-use Rattle.gtfs_feed.specs.declared.feed.FeedStop.{FeedStop}
 use Rattle.gtfs_feed.specs.declared.file_rows.FileRows.{FileRows}
 use Rattle.gtfs_feed.specs.declared.refuse.RowStop.{RowStop}
 use Rattle.gtfs_feed.specs.declared.stops.StopColumns.{StopColumns}
@@ -17,7 +16,7 @@ use Rattle.gtfs_feed.specs.declared.stops.StopTable.{StopTable}
 use Rattle.gtfs_feed.specs.Feed.{IsId}
 use Rattle.gtfs_feed.specs.Kept.{IsStopTable}
 use Rattle.gtfs_feed.specs.Reading.{IsReading, ReadsRow}
-use Rattle.gtfs_feed.specs.Stops.{stop_columns, stop_column_rules, stop_rules, stop_broken, ids_in, is_stop, stop_of, stops_behind, numbers_behind, feed_stops, stops_broken, StopRowsAccepted, StopsAccepted, IsStopsRefusal}
+use Rattle.gtfs_feed.specs.Stops.{stop_columns, stop_column_rules, stop_rules, stop_broken, is_stop, stop_of, stops_behind, numbers_behind, feed_stops, stops_broken, StopRowsAccepted, StopsAccepted, IsStopsRefusal}
 use Rattle.gtfs_feed.specs.StopTables.{AddsStopRow, IsStopTableOf}
 use Rattle.gtfs_feed.specs.Table.{IsTableRefusal, Refuses, RefusesTable}
 use Rattle.gtfs_feed.specs.RowStops.{Breaks, IsRowStop}

@@ -1,17 +1,17 @@
 -- The first fault of one trip more.
-use Rattle.std.proofs.Common.{◌≡◌, ◌∙◌, ℕ, ◌+◌, ◌<◌, ◌≤◌, List, length, Option, Some, None, Bool, true, false, refl, sym, subst, inl, inr, arith}
-use Rattle.std.specs.Prelude.{slice_get, nat_lt, if◌then◌else◌}
+use Rattle.std.proofs.Common.{◌≡◌, ℕ, ◌+◌, ◌<◌, ◌≤◌, List, length, Option, Some, None, Bool, true, false, refl, subst, inl, inr, arith}
+use Rattle.std.specs.Prelude.{nat_lt, if◌then◌else◌}
 use Rattle.std.proofs.lemmas.Bool.{cases_lt}
 use Rattle.std.proofs.lemmas.Bool.Decides.{nat_tests}
 use Rattle.std.proofs.lemmas.Option.{slice_get_within}
 use Rattle.move_model.specs.declared.refusal.Cause.{Cause}
 use Rattle.trip_calls.specs.declared.fault.Fault.{Fault}
 use Rattle.trip_calls.specs.declared.kept.KeptCall.{KeptCall}
-use Rattle.trip_calls.specs.CallRules.{call_cause, HoldTogether, IsFirstFault}
+use Rattle.trip_calls.specs.CallRules.{HoldTogether, IsFirstFault}
 use Rattle.trip_calls.specs.Filled.{IsFilled}
 use Rattle.trip_calls.specs.Order.{IsTripOrder}
 use Rattle.gtfs_feed.specs.declared.feed.FeedTrip.{FeedTrip}
-use Rattle.gtfs_feed.specs.TripRules.{Goes, IsTripFault, HoldsBelow, IsFirstTripFault, Holds, TripsHold, IsOutcome, AreOutcomes, lesser}
+use Rattle.gtfs_feed.specs.TripRules.{Goes, IsTripFault, HoldsBelow, IsFirstTripFault, Holds, IsOutcome, AreOutcomes, lesser}
 
 below-of_holds : (kept : List KeptCall) (row : ℕ) → Holds kept → HoldsBelow kept row
 below-of_holds kept row h = record { sorted = h.sorted; order = h.order; holds = λ place call here lt. h.together place (slice_get_within h.sorted place call here) }

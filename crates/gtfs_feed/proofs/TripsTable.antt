@@ -1,11 +1,11 @@
 -- A row more of trips.txt.
-use Rattle.std.proofs.Common.{◌≡◌, ◌∙◌, ℕ, ◌+◌, ◌<◌, ◌≤◌, List, [], ◌∷◌, ◌++◌, length, take, map, Option, Some, None, refl, sym, ap, arith}
+use Rattle.std.proofs.Common.{◌≡◌, ◌∙◌, ℕ, ◌<◌, ◌≤◌, List, [], ◌∷◌, ◌++◌, length, take, map, Option, None, refl, sym, ap, arith}
 use Rattle.std.proofs.lemmas.List.{take_more, take_all, map_push, length-map, length-take-le}
 use Rattle.csv.specs.Records.{fields_of}
 use Rattle.move_model.specs.declared.refusal.FileKind.TheVariants as file_kind
 use Rattle.move_model.specs.declared.refusal.Stopped.{Stopped}
 use Rattle.move_model.specs.declared.refusal.Cause.{Cause}
-use Rattle.refusals.specs.Refusal.{or_then, first_cause}
+use Rattle.refusals.specs.Refusal.{first_cause}
 use Rattle.tables.specs.Names.{place_of}
 use Rattle.tables.specs.Table.{header_of, rows_of, row_at, cell}
 use Rattle.gtfs_feed.specs.declared.file_rows.FileRows.{FileRows}

@@ -10,8 +10,6 @@ use Rattle.std.specs.List.{AllAdjacentBelow}
 use Rattle.move_model.specs.declared.network.Call.{Call}
 use Rattle.trip_calls.specs.declared.kept.KeptCall.{KeptCall}
 use Rattle.trip_calls.specs.Filled.{IsInTime}
-use Rattle.gtfs_feed.specs.declared.feed.FeedStop.{FeedStop}
-use Rattle.gtfs_feed.specs.declared.feed.Service.{Service}
 use Rattle.gtfs_feed.specs.declared.feed.FeedTrip.{FeedTrip}
 use Rattle.gtfs_feed.specs.declared.stops.StopTable.{StopTable}
 use Rattle.gtfs_feed.specs.declared.services.ServiceTable.{ServiceTable}

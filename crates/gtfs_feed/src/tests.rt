@@ -107,6 +107,12 @@ fn refuses(rt: HostRuntime) {
         },
         Refused {
             file: FileKind::Calendar,
+            text: b"service_id,monday,tuesday,wednesday,thursday,friday,saturday,sunday,start_date,end_date\n,0,0,0,0,0,0,1,20250101,20251231\n",
+            row: 1,
+            cause: Cause::IdEmpty,
+        },
+        Refused {
+            file: FileKind::Calendar,
             text: b"service_id,monday\n",
             row: 0,
             cause: Cause::NoColumn(2),
@@ -128,6 +134,12 @@ fn refuses(rt: HostRuntime) {
             text: b"service_id,monday,tuesday,wednesday,thursday,friday,saturday,sunday,start_date,end_date\nx,0,0,0,0,0,0,1,20250101,20251231\nx,0,0,0,0,0,0,1,20250101,20251231\n",
             row: 2,
             cause: Cause::Repeated,
+        },
+        Refused {
+            file: FileKind::CalendarDates,
+            text: b"service_id,date,exception_type\n,20250303,1\n",
+            row: 1,
+            cause: Cause::IdEmpty,
         },
         Refused {
             file: FileKind::CalendarDates,
@@ -170,6 +182,18 @@ fn refuses(rt: HostRuntime) {
             text: b"service_id,trip_id\nw,t1\nw,t1\n",
             row: 2,
             cause: Cause::Repeated,
+        },
+        Refused {
+            file: FileKind::StopTimes,
+            text: b"trip_id,stop_id,stop_sequence\n,A,1\n",
+            row: 1,
+            cause: Cause::IdEmpty,
+        },
+        Refused {
+            file: FileKind::StopTimes,
+            text: b"trip_id,stop_id,stop_sequence,departure_time\nt1,A,1,8:00\n",
+            row: 1,
+            cause: Cause::Time,
         },
         Refused {
             file: FileKind::StopTimes,
@@ -236,6 +260,12 @@ fn refuses(rt: HostRuntime) {
             text: b"trip_id,stop_id,stop_sequence,arrival_time,departure_time\nt1,A,1,8:00:00,7:00:00\nt1,B,2,8:10:00,\n",
             row: 1,
             cause: Cause::TimeFalls,
+        },
+        Refused {
+            file: FileKind::Frequencies,
+            text: b"trip_id,start_time,end_time,headway_secs\n,8:00:00,9:00:00,60\n",
+            row: 1,
+            cause: Cause::IdEmpty,
         },
         Refused {
             file: FileKind::Frequencies,

@@ -1,4 +1,4 @@
-use Rattle.std.proofs.Common.{◌≡◌, ◌∙◌, sym, ap}
+use Rattle.std.proofs.Common.{◌∙◌, sym, ap}
 use Rattle.csv.specs.Records.{fields_of}
 use Rattle.gtfs_feed.specs.declared.calls.RowCall.{RowCall}
 use Rattle.gtfs_feed.specs.KeptCalls.{rows_in}

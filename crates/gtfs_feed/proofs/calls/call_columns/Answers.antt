@@ -1,4 +1,4 @@
-use Rattle.std.proofs.Common.{◌≡◌, refl}
+use Rattle.std.proofs.Common.{refl}
 use Rattle.gtfs_feed.specs.Calls as spec
 use Rattle.gtfs_feed.proofs.calls.call_columns.Goals as goal
 

@@ -1,6 +1,5 @@
-use Rattle.std.proofs.Common.{◌≡◌, ◌∙◌, ◌≤◌, length, arith}
+use Rattle.std.proofs.Common.{arith}
 use Rattle.std.proofs.lemmas.List.Sorted.{length_permutation}
-use Rattle.trip_calls.specs.Filled.{IsInTime}
 use Rattle.gtfs_feed.proofs.FinishLemmas.{in-time, finished}
 use Rattle.gtfs_feed.proofs.calls.finish_trip.Goals as goal
 

@@ -1,11 +1,10 @@
-use Rattle.std.proofs.Common.{◌≡◌, ◌∙◌, ◌+◌, ◌<◌, ◌≤◌, ℕ, List, [], None, length, get_or, All, Vec, Global, sym, ap, subst, inl, inr, arith}
+use Rattle.std.proofs.Common.{◌≡◌, ◌∙◌, ◌<◌, ℕ, List, [], length, get_or, All, Vec, Global, sym, ap, subst, inl, inr, arith}
 use Rattle.std.proofs.lemmas.Bool.{cases_eq}
 use Rattle.std.proofs.lemmas.List.{length-set, get_or-set_same, get_or-set_other, get_or_default}
 use Rattle.std.proofs.lemmas.List.Elements.{All-set}
 use Rattle.trip_calls.specs.declared.kept.KeptCall.{KeptCall}
-use Rattle.gtfs_feed.specs.declared.feed.FeedTrip.{FeedTrip}
 use Rattle.gtfs_feed.specs.Kept.{IsKeptList, IsKept, IsBareTrip}
-use Rattle.gtfs_feed.specs.TripRules.{IsListOf, IsOutcome, IsFinished}
+use Rattle.gtfs_feed.specs.TripRules.{IsListOf, IsOutcome}
 use Rattle.gtfs_feed.proofs.FinishLemmas.{kept-none}
 use Rattle.gtfs_feed.proofs.TripFaults.{outcomes-more, lesser-none}
 use Rattle.gtfs_feed.proofs.calls.finish_trips.Goals as goal

@@ -1,4 +1,3 @@
-use Rattle.std.proofs.Common.{◌≡◌}
 use Rattle.gtfs_feed.specs.Calls.{trip_calls}
 use Rattle.gtfs_feed.specs.KeptCalls.{rows_in}
 use Rattle.gtfs_feed.proofs.calls.read_calls.Goals as goal

@@ -1,4 +1,3 @@
-use Rattle.std.proofs.Common.{◌≡◌}
 use Rattle.std.proofs.lemmas.List.Elements.{All-push}
 use Rattle.gtfs_feed.specs.Feed.{IsCopyRow}
 use Rattle.gtfs_feed.proofs.copies.add_copy.Goals as goal

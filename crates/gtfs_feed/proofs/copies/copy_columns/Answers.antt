@@ -1,4 +1,4 @@
-use Rattle.std.proofs.Common.{◌≡◌, refl}
+use Rattle.std.proofs.Common.{refl}
 use Rattle.gtfs_feed.specs.Copies as spec
 use Rattle.gtfs_feed.proofs.copies.copy_columns.Goals as goal
 

@@ -1,4 +1,4 @@
-use Rattle.std.proofs.Common.{◌<◌, length, arith, ◌≡◌, ◌∙◌, sym, ap, Some}
+use Rattle.std.proofs.Common.{◌<◌, length, arith, ◌∙◌, sym, ap, Some}
 use Rattle.std.proofs.lemmas.Option.{slice_get-get_or}
 use Rattle.gtfs_feed.specs.declared.feed.FeedTrip.{FeedTrip}
 use Rattle.gtfs_feed.proofs.RisingLemmas.{copy-row}

@@ -1,4 +1,3 @@
-use Rattle.std.proofs.Common.{◌≡◌, ◌∙◌, sym, Some}
 use Rattle.gtfs_feed.proofs.RisingLemmas.{ends}
 use Rattle.gtfs_feed.proofs.copies.last_second.Goals as goal
 

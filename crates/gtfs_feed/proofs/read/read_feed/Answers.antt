@@ -1,6 +1,5 @@
-use Rattle.std.proofs.Common.{◌≡◌, ◌∙◌, ◌≤◌, ℕ, List, All, length, get_or, sym, ap, subst, arith}
-use Rattle.gtfs_feed.specs.declared.feed.FeedTrip.{FeedTrip}
-use Rattle.gtfs_feed.specs.Feed.{IsFeedTrip, IsCopyRow}
+use Rattle.std.proofs.Common.{◌≡◌, ◌∙◌, ℕ, List, All, length, get_or, ap, subst, arith}
+use Rattle.gtfs_feed.specs.Feed.{IsFeedTrip}
 use Rattle.std.proofs.lemmas.Result.{err_from_is_err_and}
 use Rattle.gtfs_feed.specs.Copies.{copies_in}
 use Rattle.gtfs_feed.specs.Dates.{names_in}

@@ -1,4 +1,4 @@
-use Rattle.std.proofs.Common.{◌≡◌, refl}
+use Rattle.std.proofs.Common.{refl}
 use Rattle.gtfs_feed.specs.Dates as spec
 use Rattle.gtfs_feed.proofs.services.date_columns.Goals as goal
 

@@ -1,4 +1,3 @@
-use Rattle.std.proofs.Common.{◌≡◌}
 use Rattle.gtfs_feed.proofs.IdLemmas.{is-id}
 use Rattle.gtfs_feed.proofs.services.date_row.Goals as goal
 

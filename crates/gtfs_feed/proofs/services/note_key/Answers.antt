@@ -1,4 +1,4 @@
-use Rattle.std.proofs.Common.{◌≡◌, ◌∙◌, ◌++◌, ℕ, List, ap}
+use Rattle.std.proofs.Common.{◌∙◌, ◌++◌, ℕ, List, ap}
 use Rattle.gtfs_feed.proofs.NamedLemmas.{repeated-if, extended}
 use Rattle.gtfs_feed.proofs.services.note_key.Goals as goal
 

@@ -1,4 +1,4 @@
-use Rattle.std.proofs.Common.{◌≡◌, refl}
+use Rattle.std.proofs.Common.{refl}
 use Rattle.gtfs_feed.specs.Stops as spec
 use Rattle.gtfs_feed.proofs.stops.stop_columns.Goals as goal
 

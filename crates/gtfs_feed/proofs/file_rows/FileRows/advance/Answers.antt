@@ -1,4 +1,4 @@
-use Rattle.std.proofs.Common.{◌≡◌, ◌∙◌, sym, refl, arith}
+use Rattle.std.proofs.Common.{◌∙◌, sym, refl, arith}
 use Rattle.tables.specs.Table.{rows_of}
 use Rattle.gtfs_feed.proofs.ReadingLemmas.{behind-more, not-past, here, at-end}
 use Rattle.gtfs_feed.proofs.file_rows.FileRows.advance.Goals as goal

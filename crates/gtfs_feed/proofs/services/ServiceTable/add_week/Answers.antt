@@ -1,4 +1,3 @@
-use Rattle.std.proofs.Common.{◌≡◌, ◌∙◌}
 use Rattle.gtfs_feed.proofs.CalendarTable.{once}
 use Rattle.gtfs_feed.proofs.services.ServiceTable.add_week.Goals as goal
 

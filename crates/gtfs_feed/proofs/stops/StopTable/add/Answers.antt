@@ -1,6 +1,3 @@
-use Rattle.std.proofs.Common.{◌≡◌, ◌∙◌}
-use Rattle.gtfs_feed.specs.Stops.{stop_rules}
-use Rattle.gtfs_feed.proofs.IdLemmas.{new-id}
 use Rattle.gtfs_feed.proofs.StopsTable.{once}
 use Rattle.gtfs_feed.proofs.stops.StopTable.add.Goals as goal
 

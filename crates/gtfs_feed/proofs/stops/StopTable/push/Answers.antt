@@ -1,5 +1,3 @@
-use Rattle.std.proofs.Common.{◌≡◌, ◌∙◌, ◌≤◌, ◌++◌, ◌∷◌, [], refl, sym, ap, Some, arith, length}
-use Rattle.gtfs_feed.specs.Feed.{IsId}
 use Rattle.gtfs_feed.proofs.IdLemmas.{inserted}
 use Rattle.gtfs_feed.proofs.StopLemmas.{stop-push-named}
 use Rattle.gtfs_feed.proofs.stops.StopTable.push.Goals as goal

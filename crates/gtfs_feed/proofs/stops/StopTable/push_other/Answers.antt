@@ -1,4 +1,4 @@
-use Rattle.std.proofs.Common.{◌≡◌, ◌∙◌, refl, inl}
+use Rattle.std.proofs.Common.{refl, inl}
 use Rattle.gtfs_feed.proofs.IdLemmas.{inserted}
 use Rattle.gtfs_feed.proofs.StopLemmas.{other-push}
 use Rattle.gtfs_feed.proofs.stops.StopTable.push_other.Goals as goal

@@ -1,4 +1,3 @@
-use Rattle.std.proofs.Common.{◌≡◌, ◌∙◌}
 use Rattle.gtfs_feed.proofs.TripsTable.{once}
 use Rattle.gtfs_feed.proofs.trips.TripTable.add.Goals as goal
 
