@@ -1,5 +1,6 @@
 -- Points in the order of their places.
-use Rattle.std.proofs.Common.{◌≡◌, ◌∙◌, ◌+◌, ◌-◌, ◌<◌, ℕ, List, length, get_or, sym, ap, arith}
+use Rattle.std.proofs.Common.{◌≡◌, ◌∙◌, ◌+◌, ◌-◌, ◌<◌, ◌++◌, ℕ, List, length, get_or, take, sym, ap, arith}
+use Rattle.std.proofs.Math.Seq.{take-append_seam}
 use Rattle.std.specs.Prelude.{All, IsPermutation, pos}
 use Rattle.std.proofs.lemmas.List.{get_or_default}
 use Rattle.std.proofs.lemmas.List.Elements.{Contains-get_or, All-from_get_or}
@@ -7,8 +8,12 @@ use Rattle.std.proofs.lemmas.List.Sorted.{Contains-permutation, IsPermutation-sy
 use Rattle.std.proofs.lemmas.Option.{slice_get-get_or, slice_get_within, get_or_from_slice_get}
 use Rattle.street_graph.specs.declared.point.Point.{Point}
 use Rattle.stop_match.specs.declared.cell.Cell.{Cell}
-use Rattle.stop_match.specs.declared.level.Place.{Place}
+use Rattle.stop_match.specs.declared.order.Place.{Place}
 use Rattle.stop_match.specs.Place.{IsPlace, AreAllPlaces, AreCellsOf, ArePointCells}
+
+-- a `Vec` after a write to its whole slice
+pub whole-slice : (n : ℕ) (ys rest : List Place) → length ys ≡ n → take n (ys ++ rest) ≡ ys
+whole-slice n ys rest e = rw (sym e) (take-append_seam ys rest)
 
 -- each vertex has a place, in any order
 place-there : (places sorted : List Place) (many k : ℕ) (d : Place) → AreAllPlaces places many → IsPermutation places sorted → k < many
@@ -31,15 +36,15 @@ place-real places sorted many p d h perm lt =
 
 pub all-places : (places sorted : List Place) (many : ℕ) → AreAllPlaces places many → IsPermutation places sorted → All (λ place. IsPlace place many) sorted
 all-places places sorted many h perm =
-    All-from_get_or (λ place. IsPlace place many) sorted (record { order = 0; number = 0 }) (λ p lt.
-    let f = place-real places sorted many p (record { order = 0; number = 0 }) h perm lt in
+    All-from_get_or (λ place. IsPlace place many) sorted (record { lat = pos 0; lon = pos 0; number = 0 }) (λ p lt.
+    let f = place-real places sorted many p (record { lat = pos 0; lon = pos 0; number = 0 }) h perm lt in
     record { from_one = omega (arith, f.2); to_many = omega (arith, f.1, f.2) })
 
 -- the cells in the order of the places
 pub point-cells : (places sorted : List Place) (points : List Point) (cells : List Cell) → AreAllPlaces places (length points)
     → IsPermutation places sorted → AreCellsOf cells sorted points → ArePointCells cells points
 point-cells places sorted points cells h perm of =
-    let d : Place = record { order = 0; number = 0 } in
+    let d : Place = record { lat = pos 0; lon = pos 0; number = 0 } in
     let none : Point = record { lat = pos 0; lon = pos 0 } in
     record {
       real = λ p c lt.

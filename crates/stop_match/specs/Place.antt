@@ -5,7 +5,7 @@
 use Rattle.std.specs.Prelude.{◌≡◌, ◌≤◌, ◌<◌, ◌+◌, ◌-◌, ℕ, List, length, slice_get, slice_index_or, Some}
 use Rattle.street_graph.specs.declared.point.Point.{Point}
 use Rattle.stop_match.specs.declared.cell.Cell.{Cell}
-use Rattle.stop_match.specs.declared.level.Place.{Place}
+use Rattle.stop_match.specs.declared.order.Place.{Place}
 use Rattle.stop_match.specs.Cell.{cell_of}
 
 -- the number is that of one of so many vertices

@@ -7,7 +7,7 @@ ghost use Rattle.stop_match.specs.Place.{IsPlace, AreAllPlaces, AreCellsOf, AreP
 ghost use Rattle.stop_match.specs.Levels.{AreLevelsOf};
 
 use crate::cell::Cell;
-use crate::order::Order;
+use crate::order::{Order, Place, arrange};
 use move_model::List;
 use std::alloc::{AllocError, Global};
 use street_graph::Point;
@@ -15,15 +15,8 @@ use street_graph::Point;
 // The cells of a grid.
 pub(crate) type Level = List<Cell>;
 
-// The number of a vertex, with its place in the order of a grid.
-#[derive(Clone, Copy, Debug)]
-pub(crate) struct Place {
-    order: u64,
-    number: u32,
-}
-
 // The places of all vertices, by number.
-fn places(alloc: Global, points: &[Point], order: Order) -> Result<Vec<Place>, AllocError>
+fn places(alloc: Global, points: &[Point]) -> Result<Vec<Place>, AllocError>
     requires { length points.now < 2 ^ 32 }
     ensures { IfOk result (λ places. AreAllPlaces places.items (length points.now)) }
 {
@@ -32,7 +25,8 @@ fn places(alloc: Global, points: &[Point], order: Order) -> Result<Vec<Place>, A
     for point in points {
         number += 1;
         places.push(Place {
-            order: order.of(point, number),
+            lat: point.lat,
+            lon: point.lon,
             number,
         })?;
     }
@@ -57,8 +51,8 @@ fn finest(alloc: Global, points: &[Point], order: Order) -> Result<Level, AllocE
     requires { length points.now < 2 ^ 32 }
     ensures { IfOk result (λ cells. ArePointCells cells points.now) }
 {
-    let mut places = places(alloc, points, order)?;
-    places.sort_unstable_by_key(|place| place.order);
+    let mut places = places(alloc, points)?;
+    arrange(order, places.as_mut_slice());
     point_cells(alloc, points, places.as_slice())
 }
 

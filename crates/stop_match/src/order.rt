@@ -1,52 +1,77 @@
 // In which order the points of a grid stand. Any order serves: a good one makes cells small.
-use street_graph::Point;
+ghost use Rattle.std.specs.Prelude.{IsPermutation};
 
 // How points follow one another.
 #[derive(Clone, Copy, Debug)]
 pub(crate) enum Order {
-    // Along a curve that goes through each square of the earth before it leaves it.
+    // Cell by cell, each cut in halves along its longer side, and each half again.
     Squares,
     // From south to north, and points of one latitude by number.
     Strips,
 }
 
-// A number that grows with the coordinate.
-fn rank(coordinate: i32) -> u32 {
-    coordinate.cast_unsigned() ^ 0x8000_0000
+// The number of a vertex, with its point.
+#[derive(Clone, Copy, Debug)]
+pub(crate) struct Place {
+    pub(crate) lat: i32,
+    pub(crate) lon: i32,
+    pub(crate) number: u32,
 }
 
-// The place on the curve that goes through each quarter of a square, and in it through each quarter of that, before it
-// leaves it, always on to a neighbour (Hilbert's curve).
-fn along_curve(north: u32, east: u32) -> u64 {
-    let mut north = north;
-    let mut east = east;
-    let mut place = 0u64;
-    for step in 0..32u32 {
-        let bit = 0x8000_0000u32 >> step;
-        let is_north = north & bit != 0;
-        let is_east = east & bit != 0;
-        let quarter = match (is_north, is_east) {
-            (false, false) => 0u64,
-            (true, false) => 1,
-            (true, true) => 2,
-            (false, true) => 3,
-        };
-        place = (place << 2) | quarter;
-        if !is_north {
-            let turned = if is_east { !north } else { north };
-            north = if is_east { !east } else { east };
-            east = turned;
-        }
+impl Place {
+    // A number that grows with the latitude, and then with the number.
+    fn strip(&self) -> u64 {
+        (u64::from(self.lat.cast_unsigned() ^ 0x8000_0000) << 32) | u64::from(self.number)
     }
-    place
 }
 
-impl Order {
-    // The place of the point of a vertex.
-    pub(crate) fn of(self, point: &Point, number: u32) -> u64 {
-        match self {
-            Order::Squares => along_curve(rank(point.lat), rank(point.lon)),
-            Order::Strips => (u64::from(rank(point.lat)) << 32) | u64::from(number),
-        }
+// Whether the bounds of some places are longer from south to north than from west to east.
+fn is_tall(places: &[Place]) -> bool {
+    let mut south = i32::MAX;
+    let mut north = i32::MIN;
+    let mut west = i32::MAX;
+    let mut east = i32::MIN;
+    for place in places {
+        south = south.min(place.lat);
+        north = north.max(place.lat);
+        west = west.min(place.lon);
+        east = east.max(place.lon);
+    }
+    north.abs_diff(south) > east.abs_diff(west)
+}
+
+// Sorts the places along the longer side of their bounds.
+fn sort_along(places: &mut [Place])
+    ensures { IsPermutation places.old places.new }
+{
+    if is_tall(places) {
+        places.sort_unstable_by_key(|place| place.lat);
+    } else {
+        places.sort_unstable_by_key(|place| place.lon);
+    }
+}
+
+// Cuts the places in two, the first part of a power of two, since the cells of each grid hold so many, and each part
+// again, down to the cells of eight.
+fn arrange_squares(places: &mut [Place])
+    ensures { IsPermutation places.old places.new }
+{
+    if places.len() <= 8 {
+        return;
+    }
+    sort_along(places);
+    let half = places.len().next_power_of_two() / 2;
+    let (front, back) = places.split_at_mut(half);
+    arrange_squares(front);
+    arrange_squares(back);
+}
+
+// Puts the places in this order.
+pub(crate) fn arrange(order: Order, places: &mut [Place])
+    ensures { IsPermutation places.old places.new }
+{
+    match order {
+        Order::Squares => arrange_squares(places),
+        Order::Strips => places.sort_unstable_by_key(|place| place.strip()),
     }
 }
