@@ -1,0 +1,4 @@
+pub mod TableLemmas
+pub mod MarkLemmas
+pub mod SplitLemmas
+pub mod OrderLemmas

@@ -1,0 +1,5 @@
+pub mod Route
+pub mod Table
+pub mod Calls
+pub mod Routes
+pub mod Split
