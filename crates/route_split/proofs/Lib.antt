@@ -1,4 +1,14 @@
 pub mod TableLemmas
 pub mod MarkLemmas
+pub mod KeptLemmas
+pub mod EntryLemmas
+pub mod BlockLemmas
+pub mod BuiltLemmas
+pub mod GrowLemmas
+pub mod FlatLemmas
 pub mod SplitLemmas
 pub mod OrderLemmas
+pub mod RoutesLemmas
+pub mod IndexLemmas
+pub mod ChainLemmas
+pub mod SoFarLemmas

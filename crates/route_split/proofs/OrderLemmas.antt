@@ -97,15 +97,16 @@ trips_ordered trips ordered t (suc m) d before within =
     ]
 
 -- an obstacle between two routes with equal places: neither trip is everywhere at or before the other
-pub obstacle_apart : (n : Network) → IsNetwork n → (routes : List ℕ) (g h : ℕ) (o : HasObstacle n.trips routes (length n.trips) g h) (a b : Trip)
-    → slice_get n.trips o.t ≡ Some a → slice_get n.trips o.u ≡ Some b → length a.calls ≡ length b.calls
+pub obstacle_apart : (trips : List Trip) → AllAdjacentBelow (λ (trip next : Trip). IsAtOrBefore trip.calls next.calls) trips (length trips)
+    → (routes : List ℕ) (g h : ℕ) (o : HasObstacle trips routes (length trips) g h) (a b : Trip)
+    → slice_get trips o.t ≡ Some a → slice_get trips o.u ≡ Some b → length a.calls ≡ length b.calls
     → ((k : ℕ) (c d : Call) → slice_get a.calls k ≡ Some c → slice_get b.calls k ≡ Some d → place_of c ≡ place_of d)
     → (IsNoLater a.calls b.calls → ⊥) × (IsNoLater b.calls a.calls → ⊥)
-obstacle_apart n ok routes g h o a b at_a at_b as_many same =
+obstacle_apart trips in_order routes g h o a b at_a at_b as_many same =
     let first : IsNoLater a.calls b.calls → ⊥ = λ no_later. o.cannot a b at_a at_b (record { as_many = as_many; same = same; no_later = no_later }) in
-    let ordered = trips_ordered n.trips ok.trips_in_order o.t o.u a o.before o.within in
-    let a_is = get_or_from_slice_get n.trips o.t a a at_a in
-    let b_is = get_or_from_slice_get n.trips o.u b a at_b in
+    let ordered = trips_ordered trips in_order o.t o.u a o.before o.within in
+    let a_is = get_or_from_slice_get trips o.t a a at_a in
+    let b_is = get_or_from_slice_get trips o.u b a at_b in
     let lex : IsAtOrBefore a.calls b.calls =
-      subst (λ (v : Trip). IsAtOrBefore v.calls b.calls) a_is (subst (λ (v : Trip). IsAtOrBefore (get_or n.trips o.t a).calls v.calls) b_is ordered) in
+      subst (λ (v : Trip). IsAtOrBefore v.calls b.calls) a_is (subst (λ (v : Trip). IsAtOrBefore (get_or trips o.t a).calls v.calls) b_is ordered) in
     (first, λ later. first (never_before a.calls b.calls as_many lex later))

@@ -3,3 +3,5 @@ pub mod Table
 pub mod Calls
 pub mod Routes
 pub mod Split
+pub mod Fill
+pub mod Chains

@@ -1,11 +1,20 @@
 // The routes of a day.
-ghost use Rattle.std.specs.Prelude.{◌≡◌, ◌<◌, ◌≤◌, ◌+◌, ◌*◌, ◌^◌, ℕ, Bool, true, false, length, slice_get, slice_set, IfOk, All};
+ghost use Rattle.std.specs.Prelude.{◌≡◌, ◌<◌, ◌≤◌, ◌+◌, ◌-◌, ◌*◌, ◌^◌, ℕ, map, Bool, true, false, length, slice_get, slice_set, IfOk, All};
+ghost use Rattle.std.specs.List.{AllAdjacentBelow};
+ghost use Rattle.move_model.specs.Check.{Stays};
+ghost use Rattle.move_model.specs.Network.{IsAtOrBefore};
 ghost use Rattle.route_split.specs.Route.{IsRoute};
+ghost use Rattle.route_split.specs.Calls.{HoldsTrips};
+ghost use Rattle.route_split.specs.Routes.{AreRoutes};
 ghost use Rattle.route_split.specs.Table.{LendsCalls, RiseByRoute};
 
+use crate::day::day_routes;
+use crate::fill::Flat;
+use crate::index::{Index, index_of};
 use crate::place::Head;
 use crate::{Place, RoundMarks, RouteCall, RouteRows};
-use move_model::{StopNo, TripNo};
+use move_model::{NoMemory, StopNo, TripNo, Trips};
+use std::alloc::Global;
 use std::marker::Model;
 use std::sync::ledger::Ledger;
 use steps::Steps;
@@ -40,6 +49,49 @@ impl Model for Timetable {
 }
 
 impl Timetable {
+    /// The routes of trips that stand in their order and call at so many stops, with no seconds to board.
+    pub fn new(alloc: Global, trips: &Trips, stops: u32) -> Result<Timetable, NoMemory>
+        requires few { length trips.now < 2 ^ 32 - 1 }
+        requires few_calls { All (λ trip. length trip.calls < 2 ^ 32 - 1) trips.now }
+        requires timed { All (λ trip. All Stays trip.calls) trips.now }
+        requires at_stops { All (λ trip. All (λ call. call.stop.0 < stops) trip.calls) trips.now }
+        requires in_order { AllAdjacentBelow (λ trip next. IsAtOrBefore trip.calls next.calls) trips.now (length trips.now) }
+        ensures stops { IfOk result (λ table. table.stops ≡ stops) }
+        ensures buffer { IfOk result (λ table. table.buffer ≡ 0) }
+        ensures routes { IfOk result (λ table. AreRoutes trips.now (map (λ route. route.trips) table.routes)) }
+        ensures rows { IfOk result (λ table. HoldsTrips trips.now table.routes) }
+    {
+        Timetable::with_buffer(alloc, trips, stops, 0)
+    }
+
+    /// What `new` gives, with the seconds that a passenger needs to board.
+    pub fn with_buffer(alloc: Global, trips: &Trips, stops: u32, buffer: u32) -> Result<Timetable, NoMemory>
+        requires few { length trips.now < 2 ^ 32 - 1 }
+        requires few_calls { All (λ trip. length trip.calls < 2 ^ 32 - 1) trips.now }
+        requires timed { All (λ trip. All Stays trip.calls) trips.now }
+        requires at_stops { All (λ trip. All (λ call. call.stop.0 < stops) trip.calls) trips.now }
+        requires in_order { AllAdjacentBelow (λ trip next. IsAtOrBefore trip.calls next.calls) trips.now (length trips.now) }
+        ensures stops { IfOk result (λ table. table.stops ≡ stops) }
+        ensures buffer { IfOk result (λ table. table.buffer ≡ buffer) }
+        ensures routes { IfOk result (λ table. AreRoutes trips.now (map (λ route. route.trips) table.routes)) }
+        ensures rows { IfOk result (λ table. HoldsTrips trips.now table.routes) }
+    {
+        let flat = day_routes(alloc, trips.as_slice(), stops)?;
+        let index = index_of(alloc, &flat, stops)?;
+        let Flat { seconds, places, trips, heads } = flat;
+        let Index { firsts, calls } = index;
+        Ok(Timetable {
+            seconds,
+            places,
+            trips,
+            heads,
+            firsts,
+            calls,
+            stops,
+            buffer,
+        })
+    }
+
     /// The number of routes.
     pub fn routes(&self) -> u32
         ensures count { result ≡ length self.now.routes }

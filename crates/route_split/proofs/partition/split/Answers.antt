@@ -1,45 +1,67 @@
-use Rattle.std.proofs.Common.{◌≡◌, ℕ, ◌+◌, ◌<◌, ◌≤◌, ◌++◌, [], ◌∷◌, List, length, set, subst, sym, ap, ◌∙◌, arith, length-append}
-use Rattle.std.specs.Prelude.{slice_index, vec_len}
-use Rattle.std.proofs.lemmas.List.{length-set}
-use Rattle.route_split.specs.Split.{IsSplit, AreLasts, CanStand, CannotStand}
-use Rattle.route_split.proofs.SplitLemmas.{split_joins, lasts_join, split_opens, lasts_open}
+use Rattle.std.proofs.Common.{◌≡◌, ℕ, ◌+◌, ◌<◌, ◌≤◌, ◌++◌, [], ◌∷◌, List, length, set, subst, sym, ap, ◌∙◌, arith}
+use Rattle.std.specs.Prelude.{slice_index}
+use Rattle.route_split.specs.declared.partition.Chains.{Chains}
+use Rattle.route_split.specs.Split.{IsSplit}
+use Rattle.route_split.specs.Chains.{IsSoFar}
+use Rattle.route_split.proofs.SoFarLemmas.{so_far_none, so_far_moved, so_far_join, so_far_open}
 use Rattle.route_split.proofs.partition.split.Goals as goal
-use Rattle.route_split.proofs.partition.split.Goals.{in-Some+in_ok-push-in-Some, in-None+in_ok-push-in-None+in_ok-push-in-None-2}
+use Rattle.route_split.proofs.partition.split.Goals.{in-Some+in_ok-push-in-Some, in-None+in_ok-push-in-None+in_ok-open-in-None}
+
+pub loop-u-init : goal.loop-u-init
+loop-u-init c =
+    let chains = c.in_ok-chains.chains in
+    let is = so_far_none c.args.trips.now c.new-routes.result.items chains.lasts.items chains.tops.items chains.nexts.items
+      c.new-routes.ensures.items c.in_ok-chains.ensures.lasts c.in_ok-chains.ensures.some c.in_ok-chains.ensures.chained in
+    record { split = is.split; lasts = is.ends; few = is.few; some = is.some; chained = is.chained }
 
 pub loop-u-preserved : goal.loop-u-preserved
 loop-u-preserved c =
     let trips = c.args.trips.now in
     let routes = c.loop-u.routes.items in
-    let lasts = c.loop-u.lasts.items in
+    let lasts = c.loop-u.chains.lasts.items in
+    let tops = c.loop-u.chains.tops.items in
+    let nexts = c.loop-u.chains.nexts.items in
     let u = c.loop-u.u in
-    let was = c.loop-u.invariant in
-    let now : List ℕ = c.match-route_for.routes.items in
-    let ends : List ℕ = c.match-route_for.lasts.items in
+    let inv = c.loop-u.invariant in
+    let was : IsSoFar trips routes lasts tops nexts u = record { split = inv.split; ends = inv.lasts; few = inv.few; some = inv.some; chained = inv.chained } in
+    let routes' : List ℕ = c.match-route_for.routes.items in
+    let chains' : Chains = c.match-route_for.chains in
     elim c.match-route_for.branch [
       | in-Some+in_ok-push-in-Some w ↦
         let g = w.in-Some.g in
-        let e1 : now ≡ routes ++ g ∷ [] = ap (λ v. v.items) w.routes-is ∙ w.in_ok-push-in-Some.ensures.items in
-        let e2 : ends ≡ set lasts g u = ap (λ v. v.items) w.lasts-is in
-        let found = subst (λ (l : List ℕ). g < length l) c.as_slice.ensures.value w.in-Some.ensures.found in
-        let fits = subst (λ (l : List ℕ). CanStand trips (slice_index l g) u) c.as_slice.ensures.value w.in-Some.ensures.fits in
-        record {
-          split = subst (λ (l : List ℕ). IsSplit trips l (u + 1) (length ends)) (sym e1)
-            (subst (λ (l : List ℕ). IsSplit trips (routes ++ g ∷ []) (u + 1) (length l)) (sym e2) (split_joins trips routes lasts u c.loop-u-test.true was.split was.lasts g found fits));
-          lasts = subst (λ (l : List ℕ). AreLasts l ends (u + 1)) (sym e1)
-            (subst (λ (l : List ℕ). AreLasts (routes ++ g ∷ []) l (u + 1)) (sym e2) (lasts_join trips routes lasts u c.loop-u-test.true was.split was.lasts g found fits));
-          few = omega (arith, ap length e2, length-set lasts g u, was.few);
-        }
-      | in-None+in_ok-push-in-None+in_ok-push-in-None-2 w ↦
+        let er : routes' ≡ routes ++ g ∷ [] = ap (λ v. v.items) w.routes-is ∙ w.in_ok-push-in-Some.ensures.items in
+        let el : chains'.lasts.items ≡ set lasts g u = ap (λ (v : Chains). v.lasts.items) w.chains-is in
+        let et : chains'.tops.items ≡ tops = ap (λ (v : Chains). v.tops.items) w.chains-is in
+        let en : chains'.nexts.items ≡ nexts = ap (λ (v : Chains). v.nexts.items) w.chains-is in
+        let is = so_far_moved trips _ _ _ _ routes' chains'.lasts.items chains'.tops.items chains'.nexts.items (u + 1) er el et en
+          (so_far_join trips routes lasts tops nexts u c.loop-u-test.true was g w.in-Some.ensures.found w.in-Some.ensures.fits) in
+        record { split = is.split; lasts = is.ends; few = is.few; some = is.some; chained = is.chained }
+      | in-None+in_ok-push-in-None+in_ok-open-in-None w ↦
+        let chain = c.chain_of-chain.result in
         let n_is : w.len.result ≡ length lasts = omega (arith, w.len.ensures) in
-        let e1 : now ≡ routes ++ length lasts ∷ [] =
+        let er : routes' ≡ routes ++ length lasts ∷ [] =
           ap (λ v. v.items) w.routes-is ∙ w.in_ok-push-in-None.ensures.items ∙ ap (λ (n : ℕ). routes ++ n ∷ []) n_is in
-        let e2 : ends ≡ lasts ++ u ∷ [] = ap (λ v. v.items) w.lasts-is ∙ w.in_ok-push-in-None-2.ensures.items in
-        let none = subst (λ (l : List ℕ). (g : ℕ) → g < length l → CannotStand trips (slice_index l g) u) c.as_slice.ensures.value w.in-None.ensures.none in
-        record {
-          split = subst (λ (l : List ℕ). IsSplit trips l (u + 1) (length ends)) (sym e1)
-            (subst (λ (l : List ℕ). IsSplit trips (routes ++ length lasts ∷ []) (u + 1) (length l)) (sym e2) (split_opens trips routes lasts u c.loop-u-test.true was.split was.lasts none));
-          lasts = subst (λ (l : List ℕ). AreLasts l ends (u + 1)) (sym e1)
-            (subst (λ (l : List ℕ). AreLasts (routes ++ length lasts ∷ []) l (u + 1)) (sym e2) (lasts_open trips routes lasts u c.loop-u-test.true was.split was.lasts none));
-          few = omega (arith, ap length e2, length-append lasts (u ∷ []), was.few);
-        }
+        let el : chains'.lasts.items ≡ lasts ++ u ∷ [] = ap (λ (v : Chains). v.lasts.items) w.chains-is ∙ w.in_ok-open-in-None.ensures.lasts in
+        let et : chains'.tops.items ≡ set tops chain (length lasts + 1) = ap (λ (v : Chains). v.tops.items) w.chains-is ∙ w.in_ok-open-in-None.ensures.tops in
+        let en : chains'.nexts.items ≡ nexts ++ slice_index tops chain ∷ [] = ap (λ (v : Chains). v.nexts.items) w.chains-is ∙ w.in_ok-open-in-None.ensures.nexts in
+        let is = so_far_moved trips _ _ _ _ routes' chains'.lasts.items chains'.tops.items chains'.nexts.items (u + 1) er el et en
+          (so_far_open trips routes lasts tops nexts u c.loop-u-test.true was chain c.chain_of-chain.ensures.below c.chain_of-chain.ensures.bucket w.in-None.ensures.none) in
+        record { split = is.split; lasts = is.ends; few = is.few; some = is.some; chained = is.chained }
     ]
+
+pub returns-clause-split : goal.returns-clause-split
+returns-clause-split c =
+    let lasts = c.loop-u.chains.lasts.items in
+    let count_is : c.len-count.result ≡ length lasts = omega (arith, c.len-count.ensures) in
+    let all : c.loop-u.u ≡ length c.args.trips.now = omega (arith, c.loop-u-test.false, c.loop-u.auto.u-end) in
+    subst (λ n. IsSplit c.args.trips.now c.loop-u.routes.items n c.len-count.result) all
+    (subst (λ n. IsSplit c.args.trips.now c.loop-u.routes.items c.loop-u.u n) (sym count_is) c.loop-u.invariant.split)
+
+pub returns-clause-used : goal.returns-clause-used
+returns-clause-used c =
+    let lasts = c.loop-u.chains.lasts.items in
+    let count_is : c.len-count.result ≡ length lasts = omega (arith, c.len-count.ensures) in
+    let all : c.loop-u.u ≡ length c.args.trips.now = omega (arith, c.loop-u-test.false, c.loop-u.auto.u-end) in
+    λ g low.
+      let within : g < length lasts = omega (arith, low, count_is) in
+      (slice_index lasts g, omega (arith, c.loop-u.invariant.lasts.within g within, all), c.loop-u.invariant.lasts.in_route g within)
