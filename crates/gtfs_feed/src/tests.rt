@@ -2,6 +2,8 @@
 use crate::{Feed, FeedBytes, read_feed};
 use move_model::{Cause, FileKind, Refusal, Stopped};
 use std::alloc::Global;
+use std::fmt::Write;
+use std::test::Fail;
 
 const LONG_ID: &[u8] =
     b"stop_id\naaaaaaaaaaaaaaaaaaaaaaaaaaaaaaaaaaaaaaaaaaaaaaaaaaaaaaaaaaaaaaaaaaaaaaaaaaaaaaaaaaaaaaaaaaaaaaaaaaaaaaaaaaaaaaaaaaaaaaaaaaaaaaaaaaaaaaaaaaaaaaaaaaaaaaaaaaaaaaaaaaaaaaaaaaaaaaaaaaaaaaaaaaaaaaaaaaaaaaaaaaaaaaaaaaaaaaaaaaaaaaaaaaaaaaaaaaaaaaaaaaaaaaaaaaaaaaaa\n";
@@ -320,6 +322,116 @@ fn refuses(rt: HostRuntime) {
         cause: Cause::NoCalendar,
     };
     assert_eq!(rt; refusal(rt.alloc(), &bytes), Some(none));
+}
+
+#[test]
+fn refuses_ids_that_are_long_or_no_text(rt: HostRuntime) {
+    let cases = [
+        Refused {
+            file: FileKind::Calendar,
+            text: b"service_id,monday,tuesday,wednesday,thursday,friday,saturday,sunday,start_date,end_date\n\xFF,0,0,0,0,0,0,1,20250101,20251231\n",
+            row: 1,
+            cause: Cause::NotUtf8,
+        },
+        Refused {
+            file: FileKind::Calendar,
+            text: b"service_id,monday,tuesday,wednesday,thursday,friday,saturday,sunday,start_date,end_date\naaaaaaaaaaaaaaaaaaaaaaaaaaaaaaaaaaaaaaaaaaaaaaaaaaaaaaaaaaaaaaaaaaaaaaaaaaaaaaaaaaaaaaaaaaaaaaaaaaaaaaaaaaaaaaaaaaaaaaaaaaaaaaaaaaaaaaaaaaaaaaaaaaaaaaaaaaaaaaaaaaaaaaaaaaaaaaaaaaaaaaaaaaaaaaaaaaaaaaaaaaaaaaaaaaaaaaaaaaaaaaaaaaaaaaaaaaaaaaaaaaaaaaaaaaaaaaaa,0,0,0,0,0,0,1,20250101,20251231\n",
+            row: 1,
+            cause: Cause::IdLong(256),
+        },
+        Refused {
+            file: FileKind::CalendarDates,
+            text: b"service_id,date,exception_type\n\xFF,20250303,1\n",
+            row: 1,
+            cause: Cause::NotUtf8,
+        },
+        Refused {
+            file: FileKind::CalendarDates,
+            text: b"service_id,date,exception_type\naaaaaaaaaaaaaaaaaaaaaaaaaaaaaaaaaaaaaaaaaaaaaaaaaaaaaaaaaaaaaaaaaaaaaaaaaaaaaaaaaaaaaaaaaaaaaaaaaaaaaaaaaaaaaaaaaaaaaaaaaaaaaaaaaaaaaaaaaaaaaaaaaaaaaaaaaaaaaaaaaaaaaaaaaaaaaaaaaaaaaaaaaaaaaaaaaaaaaaaaaaaaaaaaaaaaaaaaaaaaaaaaaaaaaaaaaaaaaaaaaaaaaaaaaaaaaaaa,20250303,1\n",
+            row: 1,
+            cause: Cause::IdLong(256),
+        },
+        Refused {
+            file: FileKind::Trips,
+            text: b"service_id,trip_id\nw,t1\nw,\xFF\n",
+            row: 2,
+            cause: Cause::NotUtf8,
+        },
+        Refused {
+            file: FileKind::Trips,
+            text: b"service_id,trip_id\nw,t1\nw,aaaaaaaaaaaaaaaaaaaaaaaaaaaaaaaaaaaaaaaaaaaaaaaaaaaaaaaaaaaaaaaaaaaaaaaaaaaaaaaaaaaaaaaaaaaaaaaaaaaaaaaaaaaaaaaaaaaaaaaaaaaaaaaaaaaaaaaaaaaaaaaaaaaaaaaaaaaaaaaaaaaaaaaaaaaaaaaaaaaaaaaaaaaaaaaaaaaaaaaaaaaaaaaaaaaaaaaaaaaaaaaaaaaaaaaaaaaaaaaaaaaaaaaaaaaaaaaa\n",
+            row: 2,
+            cause: Cause::IdLong(256),
+        },
+        Refused {
+            file: FileKind::StopTimes,
+            text: b"trip_id,stop_id,stop_sequence\n\xFF,A,1\n",
+            row: 1,
+            cause: Cause::NotUtf8,
+        },
+        Refused {
+            file: FileKind::StopTimes,
+            text: b"trip_id,stop_id,stop_sequence\naaaaaaaaaaaaaaaaaaaaaaaaaaaaaaaaaaaaaaaaaaaaaaaaaaaaaaaaaaaaaaaaaaaaaaaaaaaaaaaaaaaaaaaaaaaaaaaaaaaaaaaaaaaaaaaaaaaaaaaaaaaaaaaaaaaaaaaaaaaaaaaaaaaaaaaaaaaaaaaaaaaaaaaaaaaaaaaaaaaaaaaaaaaaaaaaaaaaaaaaaaaaaaaaaaaaaaaaaaaaaaaaaaaaaaaaaaaaaaaaaaaaaaaaaaaaaaaa,A,1\n",
+            row: 1,
+            cause: Cause::IdLong(256),
+        },
+        Refused {
+            file: FileKind::StopTimes,
+            text: b"trip_id,stop_id,stop_sequence\nt1,\xFF,1\n",
+            row: 1,
+            cause: Cause::NotUtf8,
+        },
+        Refused {
+            file: FileKind::StopTimes,
+            text: b"trip_id,stop_id,stop_sequence\nt1,aaaaaaaaaaaaaaaaaaaaaaaaaaaaaaaaaaaaaaaaaaaaaaaaaaaaaaaaaaaaaaaaaaaaaaaaaaaaaaaaaaaaaaaaaaaaaaaaaaaaaaaaaaaaaaaaaaaaaaaaaaaaaaaaaaaaaaaaaaaaaaaaaaaaaaaaaaaaaaaaaaaaaaaaaaaaaaaaaaaaaaaaaaaaaaaaaaaaaaaaaaaaaaaaaaaaaaaaaaaaaaaaaaaaaaaaaaaaaaaaaaaaaaaaaaaaaaaa,1\n",
+            row: 1,
+            cause: Cause::IdLong(256),
+        },
+        Refused {
+            file: FileKind::Frequencies,
+            text: b"trip_id,start_time,end_time,headway_secs\n\xFF,08:00:00,09:00:00,60\n",
+            row: 1,
+            cause: Cause::NotUtf8,
+        },
+        Refused {
+            file: FileKind::Frequencies,
+            text: b"trip_id,start_time,end_time,headway_secs\naaaaaaaaaaaaaaaaaaaaaaaaaaaaaaaaaaaaaaaaaaaaaaaaaaaaaaaaaaaaaaaaaaaaaaaaaaaaaaaaaaaaaaaaaaaaaaaaaaaaaaaaaaaaaaaaaaaaaaaaaaaaaaaaaaaaaaaaaaaaaaaaaaaaaaaaaaaaaaaaaaaaaaaaaaaaaaaaaaaaaaaaaaaaaaaaaaaaaaaaaaaaaaaaaaaaaaaaaaaaaaaaaaaaaaaaaaaaaaaaaaaaaaaaaaaaaaaa,08:00:00,09:00:00,60\n",
+            row: 1,
+            cause: Cause::IdLong(256),
+        },
+    ];
+    for case in cases {
+        let found = refusal(rt.alloc(), &changed(case.file, case.text));
+        let Refused {
+            file,
+            row,
+            cause,
+            ..
+        } = case;
+        assert_eq!(rt;
+            found,
+            Some(Refusal { file, row, cause }),
+            "{file:?} row {row}: {cause:?}"
+        );
+    }
+}
+
+#[test]
+fn refuses_too_many_stops(rt: HostRuntime) -> Result<(), Fail> {
+    let mut text = String::from_str(rt.alloc(), "stop_id\n")?;
+    for number in 0..200_001u32 {
+        writeln!(text, "{number}")?;
+    }
+    let mut bytes = base();
+    bytes.stops = text.as_bytes();
+    let found = refusal(rt.alloc(), &bytes);
+    let limit = Refusal {
+        file: FileKind::Stops,
+        row: 0,
+        cause: Cause::Limit(200_001),
+    };
+    assert_eq!(rt; found, Some(limit));
+    Ok(())
 }
 
 // The seconds of a call of a trip.
