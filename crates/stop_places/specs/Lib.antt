@@ -1,0 +1,5 @@
+pub mod Rules
+pub mod Ids
+pub mod Given
+pub mod Table
+pub mod Places

@@ -1,176 +1,113 @@
 // The vertices of stops.
-ghost use Rattle.std.specs.Prelude.{◌≡◌, ◌≤◌, ◌<◌, ◌^◌, length, All, IfOk, IsErrOf};
+ghost use Rattle.std.specs.Prelude.{◌≡◌, ◌≤◌, length, All, IfOk, IfSome, OnOk, IsErrOf};
+ghost use Rattle.std.specs.Option.{option_copied};
+ghost use Rattle.move_model.specs.declared.refusal.Cause.{Cause};
+ghost use Rattle.move_model.specs.declared.refusal.FileKind.{FileKind};
 ghost use Rattle.move_model.specs.declared.refusal.Refusal.{Refusal};
+ghost use Rattle.stop_places.specs.Given.{vertex_in};
+ghost use Rattle.stop_places.specs.Places as spec;
+ghost use Rattle.stop_places.specs.Table.{TableAccepted, table_vertex};
 
+use crate::given::Given;
+use crate::near::{Near, near_place};
+use crate::table::read_given;
 use gtfs_feed::FeedStop;
-use move_model::{Cause, FileKind, List, NoMemory, NodeNo, Refusal, Stop, Stopped, Stops};
+use move_model::{Cause, FileKind, Name, NodeNo, Refusal, Stop, Stopped, Stops};
 use std::alloc::Global;
-use tables::{
-    ByteRecord, Names, Rows, Table, cell, check_id, find_column, open_table, read_number,
-    require_column,
-};
 
-// The vertex of a stop that is not placed yet.
-const NOWHERE: u32 = 0;
-
-// The columns of the table.
-#[derive(Clone, Copy)]
-struct Columns {
-    stop_id: Option<usize>,
-    node: Option<usize>,
-}
-
-fn refused(file: FileKind, row: u32, cause: Cause) -> Stopped {
-    Stopped::Refused(Refusal { file, row, cause })
-}
-
-// The ids of the stops, each at its stop's place.
-fn ids_of(alloc: Global, stops: &[FeedStop]) -> Result<Names, NoMemory> {
-    let mut ids = Names::new(alloc);
-    for stop in stops {
-        ids.insert(alloc, stop.name.as_slice())?;
-    }
-    Ok(ids)
-}
-
-// The number of a vertex.
-fn vertex(text: &[u8], nodes: u32) -> Result<u32, Cause>
-    ensures { IfOk result (λ node. node ≤ nodes) }
+// The vertex of a stop, or None where it has no place.
+fn vertex(given: &Given, near: &Option<Near>, stop: &FeedStop) -> Option<NodeNo>
+    requires { IfSome near.now (λ near. near.scale ≤ 1000) }
+    ensures { spec.IsPlace (vertex_in given.now) near.now stop.now result }
 {
-    match read_number(text) {
-        None => Err(Cause::Number),
-        Some(number) => {
-            if 1 <= number && number <= u64::from(nodes) {
-                Ok(number as u32)
-            } else {
-                Err(Cause::Vertex(number))
-            }
-        }
+    match given.vertex(stop.name.as_slice()) {
+        Some(node) => Some(node),
+        None => near_place(near, stop.lat, stop.lon),
     }
 }
 
-// Places the stop that a row names.
-fn place_row(
-    ids: &Names,
-    columns: Columns,
-    row: &ByteRecord,
-    nodes: u32,
-    placed: &mut [u32],
-) -> Result<(), Cause>
-    requires { All (λ node. node ≤ nodes) placed.old }
-    ensures { All (λ node. node ≤ nodes) placed.new }
+// A stop of this row has no place.
+fn no_place(row: u32) -> Stopped
+    ensures { result ≡ Stopped.Refused (record { file = FileKind.Stops; row = row; cause = Cause.NoPlace }) }
 {
-    let id = cell(row, columns.stop_id);
-    check_id(id)?;
-    let Some(stop) = ids.place(id) else {
-        return Err(Cause::UnknownStop);
-    };
-    if stop >= placed.len() {
-        return Err(Cause::UnknownStop);
-    }
-    if placed[stop] != NOWHERE {
-        return Err(Cause::Repeated);
-    }
-    let node = vertex(cell(row, columns.node), nodes)?;
-    placed[stop] = node;
-    Ok(())
+    Stopped::Refused(Refusal {
+        file: FileKind::Stops,
+        row,
+        cause: Cause::NoPlace,
+    })
 }
 
-// Places the stops that the rows of the table name.
-fn place_rows(
-    ids: &Names,
-    columns: Columns,
-    rows: &mut Rows,
-    row: &mut ByteRecord,
-    nodes: u32,
-    placed: &mut [u32],
-) -> Result<(), Stopped>
-    requires { All (λ node. node ≤ nodes) placed.old }
-    ensures { All (λ node. node ≤ nodes) placed.new }
-{
-    let mut number = 0u32;
-    loop {
-        let Ok(found) = rows.next_row(row) else {
-            return Err(Stopped::NoMemory);
-        };
-        if !found {
-            return Ok(());
-        }
-        number = number.saturating_add(1);
-        if let Err(cause) = place_row(ids, columns, row, nodes, placed) {
-            return Err(refused(FileKind::StopNodes, number, cause));
-        }
-    }
-}
-
-// Places the stops that the table names.
-fn place_named(
+// The stop at its vertex.
+fn place_stop(
     alloc: Global,
-    bytes: &[u8],
-    stops: &[FeedStop],
-    nodes: u32,
-    placed: &mut [u32],
-) -> Result<(), Stopped>
-    requires { All (λ node. node ≤ nodes) placed.old }
-    ensures { All (λ node. node ≤ nodes) placed.new }
+    given: &Given,
+    near: &Option<Near>,
+    stop: &FeedStop,
+) -> Result<Stop, Stopped>
+    requires { IfSome near.now (λ near. near.scale ≤ 1000) }
+    ensures placed { IfOk result (spec.IsPlacedStop (vertex_in given.now) near.now stop.now) }
+    ensures refused { (r : Refusal) → IsErrOf result (Stopped.Refused r)
+        → (r ≡ record { file = FileKind.Stops; row = stop.now.row; cause = Cause.NoPlace }) × spec.IsPlace (vertex_in given.now) near.now stop.now None }
 {
-    let Ok(table) = open_table(alloc, bytes) else {
+    let Some(node) = vertex(given, near, stop) else {
+        return Err(no_place(stop.row));
+    };
+    let Ok(name) = Name::from_slice(alloc, stop.name.as_slice()) else {
         return Err(Stopped::NoMemory);
     };
-    let Table {
-        header: mut row,
-        mut rows,
-    } = table;
-    let columns = Columns {
-        stop_id: find_column(&row, b"stop_id"),
-        node: find_column(&row, b"node"),
-    };
-    if let Err(cause) = require_column(0, columns.stop_id) {
-        return Err(refused(FileKind::StopNodes, 0, cause));
-    }
-    if let Err(cause) = require_column(1, columns.node) {
-        return Err(refused(FileKind::StopNodes, 0, cause));
-    }
-    let Ok(ids) = ids_of(alloc, stops) else {
-        return Err(Stopped::NoMemory);
-    };
-    place_rows(&ids, columns, &mut rows, &mut row, nodes, placed)
+    Ok(Stop { node, name })
 }
 
 // The stops at their vertices, or the first that has none.
-fn stops_at(alloc: Global, stops: &[FeedStop], placed: &[u32]) -> Result<Stops, Stopped> {
-    let mut at = List::new(alloc);
-    for (stop, node) in stops.iter().zip(placed) {
-        if *node == NOWHERE {
-            return Err(refused(FileKind::Stops, stop.row, Cause::NoPlace));
-        }
-        let Ok(name) = List::from_slice(alloc, stop.name.as_slice()) else {
+fn stops_at(
+    alloc: Global,
+    given: &Given,
+    near: &Option<Near>,
+    stops: &[FeedStop],
+) -> Result<Stops, Stopped>
+    requires { IfSome near.now (λ near. near.scale ≤ 1000) }
+    ensures placed { IfOk result (spec.ArePlaced (vertex_in given.now) near.now stops.now) }
+    ensures refused { (r : Refusal) → IsErrOf result (Stopped.Refused r) → spec.IsNoPlaceRefusal (vertex_in given.now) near.now stops.now r }
+{
+    let mut placed = Stops::new(alloc);
+    for stop in stops {
+        let next = match place_stop(alloc, given, near, stop) {
+            Ok(next) => next,
+            Err(stopped) => return Err(stopped),
+        };
+        let Ok(()) = placed.push(next) else {
             return Err(Stopped::NoMemory);
         };
-        let placed = Stop {
-            node: NodeNo(*node),
-            name,
-        };
-        if at.push(placed).is_err() {
-            return Err(Stopped::NoMemory);
-        }
     }
-    Ok(at)
+    Ok(placed)
 }
 
-/// Places the stops of a feed in a graph of so many vertices by the bytes of `stop_nodes.txt`, where there is
-/// such a file. Refused is the first broken rule of the table, or a stop that has no place.
+/// Places the stops of a feed in a street graph of so many vertices, by the bytes of `stop_nodes.txt`, where there is such
+/// a file, and by the points of the vertices, where they have points. A stop that the file names stands at the vertex
+/// given there, and any other stop at the vertex nearest to its coordinates. Refused is the first broken rule of the
+/// file, and else the first stop that has no place, by its row in `stops.txt`.
 pub fn place_stops(
     alloc: Global,
     bytes: Option<&[u8]>,
     stops: &[FeedStop],
     nodes: u32,
-) -> Result<Stops, Stopped> {
-    let Ok(mut placed) = vec![in alloc; NOWHERE; stops.len()] else {
-        return Err(Stopped::NoMemory);
+    near: Option<Near>,
+) -> Result<Stops, Stopped>
+    requires scale { IfSome near (λ near. near.scale ≤ 1000) }
+    requires points { IfSome near (λ near. length near.grid.now ≡ nodes) }
+
+    // Ok exactly where no rule is broken, and else the first broken rule; only want of memory may come in the place of either.
+    ensures accepted { OnOk result (TableAccepted stops.now nodes (option_copied bytes.entry)) }
+    ensures placed { IfOk result (spec.ArePlaced (table_vertex (option_copied bytes.entry)) near.entry stops.now) }
+    ensures refused { (refusal : Refusal) → IsErrOf result (Stopped.Refused refusal) → spec.IsPlaceRefusal stops.now nodes (option_copied bytes.entry) near.entry refusal }
+
+    // What the placed stops keep.
+    ensures vertices { IfOk result (All (λ stop. (1 ≤ stop.node.0) × (stop.node.0 ≤ nodes))) }
+    ensures as_many { IfOk result (λ placed. length placed ≡ length stops.now) }
+{
+    let given = match read_given(alloc, bytes, stops, nodes) {
+        Ok(given) => given,
+        Err(stopped) => return Err(stopped),
     };
-    if let Some(bytes) = bytes {
-        place_named(alloc, bytes, stops, nodes, &mut placed)?;
-    }
-    stops_at(alloc, stops, &placed)
+    stops_at(alloc, &given, &near, stops)
 }
