@@ -1,5 +1,5 @@
 -- The rows of a block of seconds.
-use Rattle.std.proofs.Common.{◌≡◌, ℕ, zero, suc, ◌+◌, ◌-◌, ◌*◌, ◌<◌, ◌≤◌, ◌⊎◌, inl, inr, List, [], ◌∷◌, ◌++◌, length, map, take, drop, refl, sym, ap, ◌∙◌, subst, arith, append_assoc, length-append, length-drop}
+use Rattle.std.proofs.Common.{◌≡◌, ℕ, zero, suc, ◌+◌, ◌-◌, ◌*◌, ◌<◌, ◌≤◌, inl, inr, List, [], ◌++◌, length, take, drop, refl, sym, ap, ◌∙◌, subst, arith, append_assoc, length-append, length-drop}
 use Rattle.std.specs.Prelude.{All}
 use Rattle.std.proofs.Math.Nat.{suc-mul, zero-mul}
 use Rattle.std.proofs.lemmas.Nat.{mul-le}
@@ -78,13 +78,13 @@ module _ (trips : List Trip) (group : List TripNo) where
       ap (λ l. take (a + q - a) (drop a l)) (block_more n)
       ∙ elim (cases_lt k n) [
         | inl before ↦
-          part_within (block trips group n) more a (a + q) (omega arith) (omega (arith, length-block n, rows_within k n q before))
-          ∙ arrivals_row n k before
+            part_within (block trips group n) more a (a + q) (omega arith) (omega (arith, length-block n, rows_within k n q before))
+            ∙ arrivals_row n k before
         | inr last ↦
-          let same : n ≡ k = omega arith in
-          part_between (block trips group n) (arrivals_at trips group n) (departures_at trips group n) a (a + q)
+            let same : n ≡ k = omega arith in
+            part_between (block trips group n) (arrivals_at trips group n) (departures_at trips group n) a (a + q)
             (length-block n ∙ ap (λ m. 2 * m * length group) same) (omega (arith, length-arrivals n))
-          ∙ ap (arrivals_at trips group) same
+            ∙ ap (arrivals_at trips group) same
       ]
 
   pub departures_row : (n k : ℕ) → k < n
@@ -98,15 +98,15 @@ module _ (trips : List Trip) (group : List TripNo) where
       ap (λ l. take (a + q - a) (drop a l)) (block_more n)
       ∙ elim (cases_lt k n) [
         | inl before ↦
-          part_within (block trips group n) (av ++ dv) a (a + q) (omega arith) (omega (arith, length-block n, rows_within k n q before, odd_row k q))
-          ∙ departures_row n k before
+            part_within (block trips group n) (av ++ dv) a (a + q) (omega arith) (omega (arith, length-block n, rows_within k n q before, odd_row k q))
+            ∙ departures_row n k before
         | inr last ↦
-          let same : n ≡ k = omega arith in
-          ap (λ l. take (a + q - a) (drop a l)) (sym (append_assoc (block trips group n) av dv))
-          ∙ part_last (block trips group n ++ av) dv a (a + q)
+            let same : n ≡ k = omega arith in
+            ap (λ l. take (a + q - a) (drop a l)) (sym (append_assoc (block trips group n) av dv))
+            ∙ part_last (block trips group n ++ av) dv a (a + q)
             (length-append (block trips group n) av ∙ omega (arith, length-block n, ap (λ m. 2 * m * length group) same, length-arrivals n, odd_row k q))
             (omega (arith, length-departures n))
-          ∙ ap (departures_at trips group) same
+            ∙ ap (departures_at trips group) same
       ]
 
   pub All-block : (P : ℕ → Type 0) (n : ℕ) → ((k : ℕ) → k < n → All P (arrivals_at trips group k)) → ((k : ℕ) → k < n → All P (departures_at trips group k))
@@ -116,8 +116,8 @@ module _ (trips : List Trip) (group : List TripNo) where
       let last : n < suc n = omega arith in
       subst (All P) (sym (block_more n))
       (All-append P (block trips group n) (arrivals_at trips group n ++ departures_at trips group n)
-        (All-block P n (λ k low. av k (omega (arith, low))) (λ k low. dv k (omega (arith, low))))
-        (All-append P (arrivals_at trips group n) (departures_at trips group n) (av n last) (dv n last)))
+      (All-block P n (λ k low. av k (omega (arith, low))) (λ k low. dv k (omega (arith, low))))
+      (All-append P (arrivals_at trips group n) (departures_at trips group n) (av n last) (dv n last)))
 
   -- no row yet, and the two rows of one more call
   pub none_pushed : (init : List ℕ) → init ≡ init ++ block trips group 0

@@ -1,5 +1,5 @@
 -- The route that is built of the trips of a group.
-use Rattle.std.proofs.Common.{◌≡◌, ℕ, zero, suc, ◌+◌, ◌-◌, ◌*◌, ◌<◌, ◌≤◌, ◌^◌, ◌⊎◌, inl, inr, List, [], ◌∷◌, length, map, get_or, take, drop, refl, sym, ap, ◌∙◌, subst, arith, Option, Some, None}
+use Rattle.std.proofs.Common.{◌≡◌, ℕ, zero, suc, ◌-◌, ◌*◌, ◌<◌, ◌≤◌, ◌^◌, inl, inr, List, length, map, get_or, refl, sym, ap, ◌∙◌, subst, arith, Some}
 use Rattle.std.specs.Prelude.{All, slice_get}
 use Rattle.std.specs.Option.{option_map}
 use Rattle.std.proofs.lemmas.Bool.{cases_lt}
@@ -11,11 +11,11 @@ use Rattle.move_model.specs.declared.network.Trip.{Trip}
 use Rattle.move_model.specs.declared.network.Call.{Call}
 use Rattle.move_model.specs.Check.{Stays}
 use Rattle.route_split.specs.declared.place.Place.{Place}
-use Rattle.route_split.specs.Route.{Route, arrivals_of, departures_of, NeverFalls, IsRoute}
-use Rattle.route_split.specs.Calls.{call_of, IsRowOf, IsRouteOf}
+use Rattle.route_split.specs.Route.{arrivals_of, departures_of, NeverFalls, IsRoute}
+use Rattle.route_split.specs.Calls.{IsRowOf, IsRouteOf}
 use Rattle.route_split.specs.Routes.{place_of}
-use Rattle.route_split.specs.Split.{CanFollow, CanStand}
-use Rattle.route_split.specs.Fill.{no_trip, no_call, trip_no, trip_at, call_at, arrivals_at, departures_at, block, first_calls, built, IsGroup}
+use Rattle.route_split.specs.Split.{CanFollow}
+use Rattle.route_split.specs.Fill.{no_trip, no_call, trip_no, trip_at, call_at, arrivals_at, departures_at, first_calls, built, IsGroup}
 use Rattle.route_split.proofs.BlockLemmas.{length-block, length-arrivals, length-departures, arrivals_row, departures_row, All-block}
 
 pub arrivals-built : (trips : List Trip) (group : List TripNo) (k : ℕ) → k < length (first_calls trips group)
@@ -33,7 +33,7 @@ same_follows cs = record {
   as_many = refl;
   same = λ k c d at_c at_d. ap place_of (same_Some c d (sym at_c ∙ at_d));
   no_later = λ k c d at_c at_d. let e = same_Some c d (sym at_c ∙ at_d) in
-    (omega (arith, ap (λ (x : Call). x.arr) e), omega (arith, ap (λ (x : Call). x.dep) e));
+      (omega (arith, ap (λ (x : Call). x.arr) e), omega (arith, ap (λ (x : Call). x.dep) e));
 }
 
 module _ (trips : List Trip) (group : List TripNo) (is : IsGroup trips group) where
@@ -86,13 +86,13 @@ module _ (trips : List Trip) (group : List TripNo) (is : IsGroup trips group) wh
         is_trip = trip_is p t at;
         as_many = sym follows.as_many ∙ sym (length-map first place_of);
         calls_are = λ k place at_place.
-          let low : k < length first = omega (arith, slice_get_within (map place_of first) k place at_place, length-map first place_of) in
-          let at_first = slice_get-get_or first k no_call low in
-          let here : place_of (get_or first k no_call) ≡ place =
+            let low : k < length first = omega (arith, slice_get_within (map place_of first) k place at_place, length-map first place_of) in
+            let at_first = slice_get-get_or first k no_call low in
+            let here : place_of (get_or first k no_call) ≡ place =
             same_Some (place_of (get_or first k no_call)) place (ap (option_map place_of) (sym at_first) ∙ sym (slice_get-map place_of first k) ∙ at_place) in
-          let d = call_at trips k t in
-          let e : place ≡ place_of d = sym here ∙ follows.same k (get_or first k no_call) d at_first (call_is p t k at low) in
-          call_is p t k at low ∙ ap (λ (c : Call). Some c) (sym (same_call d place _ _ e (arrival_is p k t at low) (departure_is p k t at low)));
+            let d = call_at trips k t in
+            let e : place ≡ place_of d = sym here ∙ follows.same k (get_or first k no_call) d at_first (call_is p t k at low) in
+            call_is p t k at low ∙ ap (λ (c : Call). Some c) (sym (same_call d place _ _ e (arrival_is p k t at low) (departure_is p k t at low)));
       }
 
   pub rows-built : IsRouteOf trips (built trips group)
@@ -120,7 +120,7 @@ module _ (trips : List Trip) (group : List TripNo) (is : IsGroup trips group) wh
       elim (cases_lt p q) [
         | inl before ↦ omega (arith, at_p, at_q, (no_later_at k p q low before within').0)
         | inr last ↦ let same : p ≡ q = omega (arith, last, order) in
-          omega (arith, ap (λ n. get_or (arrivals_of (built trips group) k) n 0) same)
+            omega (arith, ap (λ n. get_or (arrivals_of (built trips group) k) n 0) same)
       ]
 
   departures_never_fall : (k : ℕ) → k < length (first_calls trips group) → NeverFalls (departures_of (built trips group) k)
@@ -131,18 +131,17 @@ module _ (trips : List Trip) (group : List TripNo) (is : IsGroup trips group) wh
       elim (cases_lt p q) [
         | inl before ↦ omega (arith, at_p, at_q, (no_later_at k p q low before within').1)
         | inr last ↦ let same : p ≡ q = omega (arith, last, order) in
-          omega (arith, ap (λ n. get_or (departures_of (built trips group) k) n 0) same)
+            omega (arith, ap (λ n. get_or (departures_of (built trips group) k) n 0) same)
       ]
 
   module _ (stops : ℕ) (few_calls : All (λ trip. length trip.calls < 2 ^ 32 - 1) trips)
       (timed : All (λ trip. All Stays trip.calls) trips) (placed : All (λ trip. All (λ call. call.stop.0 < stops) trip.calls) trips) where
-
     stays_at : (k p : ℕ) → k < length (first_calls trips group) → p < length group → Stays (call_at trips k (get_or group p (trip_no 0)))
     stays_at k p low within =
         let t = get_or group p (trip_no 0) in
         let at = at_place p within in
         All-get_or Stays (trip_at trips t.0).calls k no_call (slice_get_within (trip_at trips t.0).calls k (call_at trips k t) (call_is p t k at low))
-          (All-get_or (λ (trip : Trip). All Stays trip.calls) trips t.0 no_trip (is.exist p t at) timed)
+        (All-get_or (λ (trip : Trip). All Stays trip.calls) trips t.0 no_trip (is.exist p t at) timed)
 
     first_exists : (get_or group 0 (trip_no 0)).0 < length trips
     first_exists = is.exist 0 (get_or group 0 (trip_no 0)) (at_place 0 is.some)
@@ -157,16 +156,16 @@ module _ (trips : List Trip) (group : List TripNo) (is : IsGroup trips group) wh
         record {
           full = length-block trips group (length first) ∙ ap (λ n. 2 * n * length group) (sym as_many);
           in_time = All-block trips group (λ second. second < 2 ^ 32 - 1) (length first)
-            (λ k low. All-map (λ second. second < 2 ^ 32 - 1) (λ t. (call_at trips k t).arr) group
+              (λ k low. All-map (λ second. second < 2 ^ 32 - 1) (λ t. (call_at trips k t).arr) group
               (All-from_get_or (λ t. (call_at trips k t).arr < 2 ^ 32 - 1) group (trip_no 0)
-                (λ p within. let s = stays_at k p low within in omega (arith, s.0, s.1))))
-            (λ k low. All-map (λ second. second < 2 ^ 32 - 1) (λ t. (call_at trips k t).dep) group
+              (λ p within. let s = stays_at k p low within in omega (arith, s.0, s.1))))
+              (λ k low. All-map (λ second. second < 2 ^ 32 - 1) (λ t. (call_at trips k t).dep) group
               (All-from_get_or (λ t. (call_at trips k t).dep < 2 ^ 32 - 1) group (trip_no 0)
-                (λ p within. let s = stays_at k p low within in omega (arith, s.1))));
+              (λ p within. let s = stays_at k p low within in omega (arith, s.1))));
           few_calls = omega (arith, as_many, All-get_or (λ (trip : Trip). length trip.calls < 2 ^ 32 - 1) trips (get_or group 0 (trip_no 0)).0 no_trip first_exists few_calls);
           few_trips = is.few;
           at_stops = All-map (λ place. place.stop.0 < stops) place_of first
-            (All-get_or (λ (trip : Trip). All (λ call. call.stop.0 < stops) trip.calls) trips (get_or group 0 (trip_no 0)).0 no_trip first_exists placed);
+              (All-get_or (λ (trip : Trip). All (λ call. call.stop.0 < stops) trip.calls) trips (get_or group 0 (trip_no 0)).0 no_trip first_exists placed);
           arrive_in_order = λ k low. arrivals_never_fall k (omega (arith, low, as_many));
           depart_in_order = λ k low. departures_never_fall k (omega (arith, low, as_many));
         }

@@ -1,5 +1,5 @@
 -- The entries of lists that are made of others.
-use Rattle.std.proofs.Common.{◌≡◌, ◌≢◌, ℕ, zero, suc, ◌+◌, ◌-◌, ◌<◌, ◌≤◌, ◌⊎◌, inl, inr, List, [], ◌∷◌, ◌++◌, length, map, get_or, refl, sym, ap, ◌∙◌, subst, arith, Option, Some, None}
+use Rattle.std.proofs.Common.{◌≡◌, ℕ, zero, suc, ◌+◌, ◌<◌, ◌⊎◌, inl, inr, List, [], ◌∷◌, ◌++◌, length, map, refl, sym, ap, ◌∙◌, arith, Some}
 use Rattle.std.specs.Prelude.{slice_get, Contains}
 use Rattle.std.specs.Option.{option_map}
 use Rattle.std.proofs.lemmas.Option.{slice_get_within, slice_get-get_or, slice_get-map, get_or_from_slice_get, same_Some}
@@ -38,8 +38,8 @@ pub append_cases : {X : Type 0} (xs ys : List X) (p : ℕ) (z : X) → slice_get
 append_cases [] ys p z at = inr (p, omega arith, at)
 append_cases (x ∷ xs) ys zero z at = inl at
 append_cases (x ∷ xs) ys (suc p) z at = elim (append_cases xs ys p z at) [
-      | inl first ↦ inl first
-      | inr behind ↦ inr (behind.0, omega (arith, behind.1), behind.2)
+  | inl first ↦ inl first
+  | inr behind ↦ inr (behind.0, omega (arith, behind.1), behind.2)
 ]
 
 pub append_behind : {X : Type 0} (xs ys : List X) (q : ℕ) (z : X) → slice_get ys q ≡ Some z → (p : ℕ) × (slice_get (xs ++ ys) p ≡ Some z)

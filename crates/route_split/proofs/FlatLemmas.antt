@@ -1,11 +1,10 @@
 -- One route more in the flat lists.
-use Rattle.std.proofs.Common.{◌≡◌, ℕ, ◌+◌, ◌-◌, ◌*◌, ◌<◌, ◌≤◌, List, [], ◌∷◌, ◌++◌, length, map, take, drop, refl, sym, ap, ◌∙◌, subst, arith, length-append}
+use Rattle.std.proofs.Common.{◌≡◌, ℕ, ◌+◌, ◌*◌, List, [], ◌∷◌, ◌++◌, length, map, refl, sym, ap, ◌∙◌, subst, arith, length-append}
 use Rattle.std.specs.Prelude.{All}
 use Rattle.std.proofs.lemmas.List.{length-map, map_push}
 use Rattle.std.proofs.lemmas.List.Elements.{All-head, All-tail, All-weaker, All-push}
 use Rattle.move_model.specs.declared.network.TripNo.{TripNo}
 use Rattle.move_model.specs.declared.network.Trip.{Trip}
-use Rattle.move_model.specs.declared.network.Call.{Call}
 use Rattle.route_split.specs.declared.place.Place.{Place}
 use Rattle.route_split.specs.declared.place.Head.{Head}
 use Rattle.route_split.specs.Route.{Route}
@@ -62,16 +61,16 @@ module _ (all : List Trip) (group : List TripNo) (seconds : List ℕ) (places : 
   route_new =
       same_route _ _ _ _ _ _
       (part_last places (map place_of (first_calls all group)) h.place (h.place + h.calls) (sym place_is)
-        (omega (arith, calls_are, length-map (first_calls all group) place_of)))
+      (omega (arith, calls_are, length-map (first_calls all group) place_of)))
       (part_last trips group h.trip (h.trip + h.trips) (sym trip_is) (omega (arith, trips_are)))
       (part_last seconds (block all group (length (first_calls all group))) h.second (h.second + 2 * h.calls * h.trips) (sym second_is)
-        (omega (arith, long, second_is, length-block all group (length (first_calls all group)))))
+      (omega (arith, long, second_is, length-block all group (length (first_calls all group)))))
 
   pub all_fit : All (HeadFits (seconds ++ block all group (length (first_calls all group))) (places ++ map place_of (first_calls all group)) (trips ++ group)) (heads ++ h ∷ [])
   all_fit =
       All-push (HeadFits (seconds ++ block all group (length (first_calls all group))) (places ++ map place_of (first_calls all group)) (trips ++ group)) heads h
       (All-weaker (HeadFits seconds places trips) (HeadFits (seconds ++ block all group (length (first_calls all group))) (places ++ map place_of (first_calls all group)) (trips ++ group))
-        (fits_on seconds (block all group (length (first_calls all group))) places (map place_of (first_calls all group)) trips group) heads fit)
+      (fits_on seconds (block all group (length (first_calls all group))) places (map place_of (first_calls all group)) trips group) heads fit)
       fits_new
 
   pub routes_more : map (route_of (seconds ++ block all group (length (first_calls all group))) (places ++ map place_of (first_calls all group)) (trips ++ group)) (heads ++ h ∷ [])
@@ -80,9 +79,9 @@ module _ (all : List Trip) (group : List TripNo) (seconds : List ℕ) (places : 
       let now = route_of (seconds ++ block all group (length (first_calls all group))) (places ++ map place_of (first_calls all group)) (trips ++ group) in
       map_push now heads h
       ∙ ap (λ l. l ++ now h ∷ [])
-        (map_same now (route_of seconds places trips) heads
-          (All-weaker (HeadFits seconds places trips) (λ x. now x ≡ route_of seconds places trips x)
-            (route_on seconds (block all group (length (first_calls all group))) places (map place_of (first_calls all group)) trips group) heads fit))
+      (map_same now (route_of seconds places trips) heads
+      (All-weaker (HeadFits seconds places trips) (λ x. now x ≡ route_of seconds places trips x)
+      (route_on seconds (block all group (length (first_calls all group))) places (map place_of (first_calls all group)) trips group) heads fit))
       ∙ ap (λ r. map (route_of seconds places trips) heads ++ r ∷ []) route_new
 
 -- the lists after a group's route was laid behind the others
@@ -104,4 +103,4 @@ parts_fit all group seconds places trips heads seconds' places' trips' heads' es
     (subst (λ (l : List Place). Good all group seconds places trips heads (seconds ++ block all group (length (first_calls all group))) l trips' heads') (sym ep)
     (subst (λ (l : List TripNo). Good all group seconds places trips heads (seconds ++ block all group (length (first_calls all group))) (places ++ map place_of (first_calls all group)) l heads') (sym et)
     (subst (λ (l : List Head). Good all group seconds places trips heads (seconds ++ block all group (length (first_calls all group))) (places ++ map place_of (first_calls all group)) (trips ++ group) l) (sym eh)
-      (all_fit all group seconds places trips heads h refl refl refl refl refl fit, routes_more all group seconds places trips heads h refl refl refl refl refl fit))))
+    (all_fit all group seconds places trips heads h refl refl refl refl refl fit, routes_more all group seconds places trips heads h refl refl refl refl refl fit))))

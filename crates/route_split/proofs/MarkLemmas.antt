@@ -1,7 +1,7 @@
 -- Stamps and rounds.
-use Rattle.std.proofs.Common.{◌≡◌, ◌≢◌, ℕ, zero, suc, ◌+◌, ◌<◌, ◌≤◌, Bool, true, false, List, [], ◌∷◌, map, length, get_or, set, nat_eq, refl, sym, ap, ◌∙◌, subst, arith}
+use Rattle.std.proofs.Common.{◌≡◌, ℕ, ◌+◌, ◌<◌, ◌≤◌, true, false, List, [], ◌∷◌, map, length, set, nat_eq, refl, ap, ◌∙◌, arith}
 use Rattle.std.specs.Prelude.{All, replicate}
-use Rattle.std.proofs.lemmas.List.{map-set, length-map}
+use Rattle.std.proofs.lemmas.List.{map-set}
 use Rattle.std.proofs.lemmas.List.Elements.{All-head, All-tail, All-weaker}
 use Rattle.std.proofs.lemmas.Bool.{ne_eqb, eq-eqb}
 

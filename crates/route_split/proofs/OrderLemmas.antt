@@ -1,5 +1,5 @@
 -- The order of trips, and of a trip's calls.
-use Rattle.std.proofs.Common.{◌≡◌, ℕ, zero, suc, ◌+◌, ◌<◌, ◌≤◌, ◌⊎◌, inl, inr, List, [], ◌∷◌, length, get_or, subst, sym, refl, ap, ◌∙◌, arith, Option, Some, None}
+use Rattle.std.proofs.Common.{◌≡◌, ℕ, zero, suc, ◌+◌, ◌<◌, ◌≤◌, ◌⊎◌, inl, inr, List, [], ◌∷◌, length, get_or, subst, sym, refl, ap, ◌∙◌, arith, Some}
 use Rattle.std.specs.Prelude.{slice_get, All}
 use Rattle.std.specs.List.{AllAdjacentBelow}
 use Rattle.std.proofs.lemmas.List.Elements.{All-get_or}
@@ -12,7 +12,7 @@ use Rattle.move_model.specs.declared.journey.Ride.{Ride}
 use Rattle.move_model.specs.Journey.{IsRide}
 use Rattle.move_model.specs.Network.{IsAtOrBefore, IsNetwork, IsTrip}
 use Rattle.route_split.specs.Routes.{IsNoLater, place_of}
-use Rattle.route_split.specs.Split.{CanFollow, HasObstacle}
+use Rattle.route_split.specs.Split.{HasObstacle}
 
 -- a trip that stands at or before another one and is nowhere before it has the same seconds
 pub never_before : (cs ds : List Call) → length cs ≡ length ds → IsAtOrBefore cs ds → IsNoLater ds cs → IsNoLater cs ds
@@ -28,12 +28,12 @@ never_before (c ∷ cs) (d ∷ ds) same before late =
       ]
     ]
   where
-  at_place : (c : Call) (cs : List Call) (d : Call) (ds : List Call) → (c.arr ≡ d.arr) × (c.dep ≡ d.dep) → IsNoLater cs ds → IsNoLater (c ∷ cs) (d ∷ ds)
-  at_place c cs d ds e rest zero x y at_x at_y =
-      let xe : c ≡ x = same_Some c x at_x in
-      let ye : d ≡ y = same_Some d y at_y in
-      (omega (arith, e.0, ap (λ (v : Call). v.arr) xe, ap (λ (v : Call). v.arr) ye), omega (arith, e.1, ap (λ (v : Call). v.dep) xe, ap (λ (v : Call). v.dep) ye))
-  at_place c cs d ds e rest (suc k) x y at_x at_y = rest k x y at_x at_y
+    at_place : (c : Call) (cs : List Call) (d : Call) (ds : List Call) → (c.arr ≡ d.arr) × (c.dep ≡ d.dep) → IsNoLater cs ds → IsNoLater (c ∷ cs) (d ∷ ds)
+    at_place c cs d ds e rest zero x y at_x at_y =
+        let xe : c ≡ x = same_Some c x at_x in
+        let ye : d ≡ y = same_Some d y at_y in
+        (omega (arith, e.0, ap (λ (v : Call). v.arr) xe, ap (λ (v : Call). v.arr) ye), omega (arith, e.1, ap (λ (v : Call). v.dep) xe, ap (λ (v : Call). v.dep) ye))
+    at_place c cs d ds e rest (suc k) x y at_x at_y = rest k x y at_x at_y
 
 -- no call of a trip departs after a later one arrives
 goes_forward : (calls : List Call) → All (λ call. call.arr ≤ call.dep) calls → AllAdjacentBelow (λ call next. call.dep ≤ next.arr) calls (length calls)
@@ -55,7 +55,7 @@ ride_forward n ok ride on off is =
     let same : leaves.0 ≡ boards.0 = same_Some leaves.0 boards.0 (sym leaves.1 ∙ boards.1) in
     let at_off = subst (λ (t : Trip). slice_get t.calls ride.alight ≡ Some off) same leaves.2 in
     let trip : IsTrip n boards.0 = subst (IsTrip n) (get_or_from_slice_get n.trips ride.trip.0 boards.0 boards.0 boards.1)
-      (All-get_or (IsTrip n) n.trips ride.trip.0 boards.0 (slice_get_within n.trips ride.trip.0 boards.0 boards.1) ok.trips_go) in
+    (All-get_or (IsTrip n) n.trips ride.trip.0 boards.0 (slice_get_within n.trips ride.trip.0 boards.0 boards.1) ok.trips_go) in
     let calls = (boards.0).calls in
     let within = slice_get_within calls ride.alight off at_off in
     let step = goes_forward calls trip.stays trip.goes_on ride.board ride.alight on is.forward within in
@@ -72,11 +72,11 @@ lex_on a b c P Q R go (inl x) (inr y) = inl (omega (arith, x, y.0))
 lex_on a b c P Q R go (inr x) (inl y) = inl (omega (arith, x.0, y))
 lex_on a b c P Q R go (inr (e, x)) (inr (f, y)) = inr (e ∙ f, deps x y)
   where
-  deps : (a.dep < b.dep) ⊎ ((a.dep ≡ b.dep) × P) → (b.dep < c.dep) ⊎ ((b.dep ≡ c.dep) × Q) → (a.dep < c.dep) ⊎ ((a.dep ≡ c.dep) × R)
-  deps (inl x) (inl y) = inl (omega (arith, x, y))
-  deps (inl x) (inr y) = inl (omega (arith, x, y.0))
-  deps (inr x) (inl y) = inl (omega (arith, x.0, y))
-  deps (inr x) (inr y) = inr (x.0 ∙ y.0, go x.1 y.1)
+    deps : (a.dep < b.dep) ⊎ ((a.dep ≡ b.dep) × P) → (b.dep < c.dep) ⊎ ((b.dep ≡ c.dep) × Q) → (a.dep < c.dep) ⊎ ((a.dep ≡ c.dep) × R)
+    deps (inl x) (inl y) = inl (omega (arith, x, y))
+    deps (inl x) (inr y) = inl (omega (arith, x, y.0))
+    deps (inr x) (inl y) = inl (omega (arith, x.0, y))
+    deps (inr x) (inr y) = inr (x.0 ∙ y.0, go x.1 y.1)
 
 order_on : (xs bs cs : List Call) → IsAtOrBefore xs bs → IsAtOrBefore bs cs → IsAtOrBefore xs cs
 order_on [] bs cs h h' = tt
@@ -108,5 +108,5 @@ obstacle_apart trips in_order routes g h o a b at_a at_b as_many same =
     let a_is = get_or_from_slice_get trips o.t a a at_a in
     let b_is = get_or_from_slice_get trips o.u b a at_b in
     let lex : IsAtOrBefore a.calls b.calls =
-      subst (λ (v : Trip). IsAtOrBefore v.calls b.calls) a_is (subst (λ (v : Trip). IsAtOrBefore (get_or trips o.t a).calls v.calls) b_is ordered) in
+    subst (λ (v : Trip). IsAtOrBefore v.calls b.calls) a_is (subst (λ (v : Trip). IsAtOrBefore (get_or trips o.t a).calls v.calls) b_is ordered) in
     (first, λ later. first (never_before a.calls b.calls as_many lex later))

@@ -1,5 +1,5 @@
 -- The groups of a split are the routes.
-use Rattle.std.proofs.Common.{◌≡◌, ◌≢◌, ℕ, zero, suc, ◌+◌, ◌-◌, ◌<◌, ◌≤◌, ◌^◌, ◌⊎◌, inl, inr, List, [], ◌∷◌, length, map, get_or, refl, sym, ap, ◌∙◌, subst, arith, Option, Some, None}
+use Rattle.std.proofs.Common.{◌≡◌, ◌≢◌, ℕ, ◌-◌, ◌<◌, ◌^◌, inl, inr, List, [], ◌∷◌, length, map, get_or, refl, sym, ap, ◌∙◌, subst, arith, Some}
 use Rattle.std.specs.Prelude.{slice_get, slice_index, All}
 use Rattle.std.specs.List.{AllAdjacentBelow}
 use Rattle.std.proofs.lemmas.Bool.{cases_order}
@@ -12,8 +12,8 @@ use Rattle.move_model.specs.declared.network.Call.{Call}
 use Rattle.move_model.specs.Check.{Stays}
 use Rattle.move_model.specs.Network.{IsAtOrBefore}
 use Rattle.route_split.specs.Route.{Route, IsRoute}
-use Rattle.route_split.specs.Calls.{IsRouteOf, HasRow, HoldsTrips}
-use Rattle.route_split.specs.Routes.{place_of, HaveSamePlaces, IsNoLater, IsTripIn, IsIn, IsPartition, IsOneRoute, AreAlike, AreApart, AreRoutes}
+use Rattle.route_split.specs.Calls.{IsRouteOf, HoldsTrips}
+use Rattle.route_split.specs.Routes.{place_of, HaveSamePlaces, IsNoLater, IsPartition, IsOneRoute, AreAlike, AreApart, AreRoutes}
 use Rattle.route_split.specs.Split.{CanFollow, CanStand, HasObstacle, IsSplit}
 use Rattle.route_split.specs.Fill.{no_trip, trip_no, trip_at, group_of, built, IsGroup}
 use Rattle.route_split.proofs.KeptLemmas.{kept_is, kept_has, kept_rise, length-kept}
@@ -34,7 +34,6 @@ module _ (trips : List Trip) (routes : List ℕ) (count : ℕ) (groups : List (L
     (used : (g : ℕ) → g < count → (t : ℕ) × (t < length trips) × (slice_index routes t ≡ g))
     (as_many : length groups ≡ count)
     (are : (g : ℕ) → g < count → get_or groups g [] ≡ group_of routes g (length routes)) where
-
   group_is : (g : ℕ) (group : List TripNo) → slice_get groups g ≡ Some group → (g < count) × (group ≡ group_of routes g (length trips))
   group_is g group at =
       let low : g < count = omega (arith, slice_get_within groups g group at, as_many) in
@@ -52,7 +51,7 @@ module _ (trips : List Trip) (routes : List ℕ) (count : ℕ) (groups : List (L
   rise g p q group t u at before at_t at_u =
       let e = (group_is g group at).1 in
       let k = kept_rise trip_no (slice_index routes) g (length trips) p q t u before
-        (subst (λ l. slice_get l p ≡ Some t) e at_t) (subst (λ l. slice_get l q ≡ Some u) e at_u) in
+      (subst (λ l. slice_get l p ≡ Some t) e at_t) (subst (λ l. slice_get l q ≡ Some u) e at_u) in
       omega (arith, k.2, ap (λ (x : TripNo). x.0) k.3, ap (λ (x : TripNo). x.0) k.4)
 
   -- where a trip stands
@@ -93,11 +92,11 @@ module _ (trips : List Trip) (routes : List ℕ) (count : ℕ) (groups : List (L
   same_place : (g : ℕ) (group : List TripNo) (t : TripNo) (p q : ℕ) → slice_get groups g ≡ Some group → slice_get group p ≡ Some t
       → slice_get group q ≡ Some t → p ≡ q
   same_place g group t p q at at_p at_q = elim (cases_order p q) [
-      | inl same ↦ same
-      | inr apart ↦ elim apart [
-        | inl before ↦ absurd (omega (arith, rise g p q group t t at before at_p at_q))
-        | inr behind ↦ absurd (omega (arith, rise g q p group t t at behind at_q at_p))
-      ]
+    | inl same ↦ same
+    | inr apart ↦ elim apart [
+      | inl before ↦ absurd (omega (arith, rise g p q group t t at before at_p at_q))
+      | inr behind ↦ absurd (omega (arith, rise g q p group t t at behind at_q at_p))
+    ]
   ]
 
   pub partition : IsPartition trips groups
@@ -105,39 +104,39 @@ module _ (trips : List Trip) (routes : List ℕ) (count : ℕ) (groups : List (L
     none_empty = λ g group at. (is_group g group at).some;
     exist = λ t g p here. (member g p here.group t here.is_group here.at_place).0;
     somewhere = λ t low.
-      let g = slice_index routes t.0 in
-      let below = is.below t.0 low in
-      let at = group_at g below in
-      let p = place_in g (get_or groups g []) t.0 at low refl in
-      (g, p.0, record { group = get_or groups g []; is_group = at; at_place = p.1 });
+        let g = slice_index routes t.0 in
+        let below = is.below t.0 low in
+        let at = group_at g below in
+        let p = place_in g (get_or groups g []) t.0 at low refl in
+        (g, p.0, record { group = get_or groups g []; is_group = at; at_place = p.1 });
     once = λ t g p h q here there.
-      let m = member g p here.group t here.is_group here.at_place in
-      let m' = member h q there.group t there.is_group there.at_place in
-      let e : g ≡ h = sym m.1 ∙ m'.1 in
-      let same = same_group g h here.group there.group e here.is_group there.is_group in
-      (e, same_place h there.group t p q there.is_group (subst (λ l. slice_get l p ≡ Some t) same here.at_place) there.at_place);
+        let m = member g p here.group t here.is_group here.at_place in
+        let m' = member h q there.group t there.is_group there.at_place in
+        let e : g ≡ h = sym m.1 ∙ m'.1 in
+        let same = same_group g h here.group there.group e here.is_group there.is_group in
+        (e, same_place h there.group t p q there.is_group (subst (λ l. slice_get l p ≡ Some t) same here.at_place) there.at_place);
   }
 
   pub one_route : (g : ℕ) (group : List TripNo) → slice_get groups g ≡ Some group → IsOneRoute trips group
   one_route g group at = record {
     rise = λ p q t u before at_t at_u. rise g p q group t u at before at_t at_u;
     same_places = λ p q t u a b before is_t is_u.
-      same_places a.calls b.calls (stand g p q group t u at before is_t.at_place is_u.at_place a b is_t.is_trip is_u.is_trip);
+        same_places a.calls b.calls (stand g p q group t u at before is_t.at_place is_u.at_place a b is_t.is_trip is_u.is_trip);
     never_overtaken = λ p q t u a b before is_t is_u.
-      (stand g p q group t u at before is_t.at_place is_u.at_place a b is_t.is_trip is_u.is_trip).no_later;
+        (stand g p q group t u at before is_t.at_place is_u.at_place a b is_t.is_trip is_u.is_trip).no_later;
   }
 
   -- two trips with one number have the same places
   alike : (t u : ℕ) (a b : Trip) → t < length trips → u < length trips → slice_index routes t ≡ slice_index routes u → slice_get trips t ≡ Some a
       → slice_get trips u ≡ Some b → HaveSamePlaces a.calls b.calls
   alike t u a b low low' e at_t at_u = elim (cases_order t u) [
-      | inl same ↦
+    | inl same ↦
         let one : a ≡ b = same_Some a b (sym at_t ∙ ap (slice_get trips) same ∙ at_u) in
         ap (λ (x : Trip). map place_of x.calls) one
-      | inr apart ↦ elim apart [
-        | inl before ↦ same_places a.calls b.calls (is.alike t u before low' e a b at_t at_u)
-        | inr behind ↦ sym (same_places b.calls a.calls (is.alike u t behind low (sym e) b a at_u at_t))
-      ]
+    | inr apart ↦ elim apart [
+      | inl before ↦ same_places a.calls b.calls (is.alike t u before low' e a b at_t at_u)
+      | inr behind ↦ sym (same_places b.calls a.calls (is.alike u t behind low (sym e) b a at_u at_t))
+    ]
   ]
 
   module _ (ordered : AllAdjacentBelow (λ (trip next : Trip). IsAtOrBefore trip.calls next.calls) trips (length trips)) where
@@ -154,12 +153,12 @@ module _ (trips : List Trip) (routes : List ℕ) (count : ℕ) (groups : List (L
         let x = trip_at trips o.t in
         let y = trip_at trips o.u in
         let places : map place_of x.calls ≡ map place_of y.calls =
-          alike o.t v x a low_t low_v (o.t_in ∙ sym v_in) (trip_is o.t low_t) at_v
-          ∙ same
-          ∙ alike w o.u b y low_w low_u (w_in ∙ sym o.u_in) at_w (trip_is o.u low_u) in
+        alike o.t v x a low_t low_v (o.t_in ∙ sym v_in) (trip_is o.t low_t) at_v
+        ∙ same
+        ∙ alike w o.u b y low_w low_u (w_in ∙ sym o.u_in) at_w (trip_is o.u low_u) in
         let long : length x.calls ≡ length y.calls = sym (length-map x.calls place_of) ∙ ap length places ∙ length-map y.calls place_of in
         obstacle_apart trips ordered routes g h o x y (trip_is o.t low_t) (trip_is o.u low_u) long
-          (λ k c d at_c at_d. same_at place_of x.calls y.calls k c d places at_c at_d)
+        (λ k c d at_c at_d. same_at place_of x.calls y.calls k c d places at_c at_d)
 
     apart : (g h : ℕ) (group other : List TripNo) → g ≢ h → slice_get groups g ≡ Some group → slice_get groups h ≡ Some other
         → AreAlike trips group other → AreApart trips group other
@@ -172,29 +171,41 @@ module _ (trips : List Trip) (routes : List ℕ) (count : ℕ) (groups : List (L
           | inl same ↦ absurd (ne same)
           | inr order ↦ elim order [
             | inl before ↦
-              let o = is.apart g h before low_h in
-              let n = neither g h o al.t.0 al.u.0 al.a al.b v.0 w.0 v.1 w.1 al.of_group.is_trip al.of_other.is_trip al.same_places in
-              let low_t : o.t < length trips = omega (arith, o.before, o.within) in
-              let p = place_in g group o.t at_g low_t o.t_in in
-              let q = place_in h other o.u at_h o.within o.u_in in
-              record {
-                p = p.0; q = q.0; t = trip_no o.t; u = trip_no o.u; a = trip_at trips o.t; b = trip_at trips o.u;
-                of_group = record { at_place = p.1; is_trip = trip_is o.t low_t };
-                of_other = record { at_place = q.1; is_trip = trip_is o.u o.within };
-                not_before = n.0; not_after = n.1;
-              }
+                let o = is.apart g h before low_h in
+                let n = neither g h o al.t.0 al.u.0 al.a al.b v.0 w.0 v.1 w.1 al.of_group.is_trip al.of_other.is_trip al.same_places in
+                let low_t : o.t < length trips = omega (arith, o.before, o.within) in
+                let p = place_in g group o.t at_g low_t o.t_in in
+                let q = place_in h other o.u at_h o.within o.u_in in
+                record {
+                  p = p.0;
+                  q = q.0;
+                  t = trip_no o.t;
+                  u = trip_no o.u;
+                  a = trip_at trips o.t;
+                  b = trip_at trips o.u;
+                  of_group = record { at_place = p.1; is_trip = trip_is o.t low_t };
+                  of_other = record { at_place = q.1; is_trip = trip_is o.u o.within };
+                  not_before = n.0;
+                  not_after = n.1;
+                }
             | inr behind ↦
-              let o = is.apart h g behind low_g in
-              let n = neither h g o al.u.0 al.t.0 al.b al.a w.0 v.0 w.1 v.1 al.of_other.is_trip al.of_group.is_trip (sym al.same_places) in
-              let low_t : o.t < length trips = omega (arith, o.before, o.within) in
-              let p = place_in h other o.t at_h low_t o.t_in in
-              let q = place_in g group o.u at_g o.within o.u_in in
-              record {
-                p = q.0; q = p.0; t = trip_no o.u; u = trip_no o.t; a = trip_at trips o.u; b = trip_at trips o.t;
-                of_group = record { at_place = q.1; is_trip = trip_is o.u o.within };
-                of_other = record { at_place = p.1; is_trip = trip_is o.t low_t };
-                not_before = n.1; not_after = n.0;
-              }
+                let o = is.apart h g behind low_g in
+                let n = neither h g o al.u.0 al.t.0 al.b al.a w.0 v.0 w.1 v.1 al.of_other.is_trip al.of_group.is_trip (sym al.same_places) in
+                let low_t : o.t < length trips = omega (arith, o.before, o.within) in
+                let p = place_in h other o.t at_h low_t o.t_in in
+                let q = place_in g group o.u at_g o.within o.u_in in
+                record {
+                  p = q.0;
+                  q = p.0;
+                  t = trip_no o.u;
+                  u = trip_no o.t;
+                  a = trip_at trips o.u;
+                  b = trip_at trips o.t;
+                  of_group = record { at_place = q.1; is_trip = trip_is o.u o.within };
+                  of_other = record { at_place = p.1; is_trip = trip_is o.t low_t };
+                  not_before = n.1;
+                  not_after = n.0;
+                }
           ]
         ]
 
@@ -204,15 +215,17 @@ module _ (trips : List Trip) (routes : List ℕ) (count : ℕ) (groups : List (L
   pub holds : HoldsTrips trips (map (built trips) groups)
   holds = record {
     rows_are = λ r route at.
-      let e = map_entry (built trips) groups r route at in
-      subst (IsRouteOf trips) e.2 (rows-built trips e.0 (is_group r e.0 e.1));
+        let e = map_entry (built trips) groups r route at in
+        subst (IsRouteOf trips) e.2 (rows-built trips e.0 (is_group r e.0 e.1));
     each_trip = λ t low.
-      let at = partition.somewhere t low in
-      record {
-        r = at.0; p = at.1; route = built trips at.2.group;
-        is_route = entry_map (built trips) groups at.0 at.2.group at.2.is_group;
-        is_row = at.2.at_place;
-      };
+        let at = partition.somewhere t low in
+        record {
+          r = at.0;
+          p = at.1;
+          route = built trips at.2.group;
+          is_route = entry_map (built trips) groups at.0 at.2.group at.2.is_group;
+          is_row = at.2.at_place;
+        };
   }
 
   pub routes_whole : (stops : ℕ) → All (λ trip. length trip.calls < 2 ^ 32 - 1) trips → All (λ trip. All Stays trip.calls) trips

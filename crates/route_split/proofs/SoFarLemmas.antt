@@ -1,9 +1,9 @@
 -- The routes of the trips so far, with one trip more.
-use Rattle.std.proofs.Common.{◌≡◌, ℕ, ◌+◌, ◌<◌, ◌≤◌, List, [], ◌∷◌, ◌++◌, length, set, subst, sym, refl, ap, ◌∙◌, arith, length-append}
+use Rattle.std.proofs.Common.{◌≡◌, ℕ, ◌+◌, ◌<◌, List, [], ◌∷◌, ◌++◌, length, set, subst, sym, refl, arith, length-append}
 use Rattle.std.specs.Prelude.{slice_index}
 use Rattle.std.proofs.lemmas.List.{length-set}
 use Rattle.move_model.specs.declared.network.Trip.{Trip}
-use Rattle.route_split.specs.Split.{CanStand, CannotStand, IsSplit, AreLasts}
+use Rattle.route_split.specs.Split.{CanStand, CannotStand}
 use Rattle.route_split.specs.Chains.{bucket_of, AreChains, IsSoFar}
 use Rattle.route_split.proofs.SplitLemmas.{split_joins, lasts_join, split_opens, lasts_open}
 use Rattle.route_split.proofs.ChainLemmas.{chains_join, chains_open}

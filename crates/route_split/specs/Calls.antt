@@ -3,7 +3,7 @@
 --     IsRowOf trips route p no      the route's p-th row is this trip, with its calls and seconds
 --     HoldsTrips trips routes       each row is its trip, and each trip has a row
 --     IsTableOf n table             the timetable was made from the network's trips
-use Rattle.std.specs.Prelude.{◌≡◌, ℕ, ◌<◌, ◌≤◌, List, length, slice_get, slice_index, Option, Some}
+use Rattle.std.specs.Prelude.{◌≡◌, ℕ, ◌<◌, ◌≤◌, List, length, slice_get, slice_index, Some}
 use Rattle.move_model.specs.declared.network.Network.{Network}
 use Rattle.move_model.specs.declared.network.TripNo.{TripNo}
 use Rattle.move_model.specs.declared.network.Trip.{Trip}

@@ -4,7 +4,7 @@
 --     AreChains key ..           of the routes with one number each leads to the latest before it, and `tops` to the latest
 --     AreChained trips ..        the same, by the last trip of each route
 --     IsSoFar trips .. n         the routes of the first n trips, their last trips, and their chains
-use Rattle.std.specs.Prelude.{◌≡◌, ℕ, ◌+◌, ◌-◌, ◌*◌, ◌/◌, ◌%◌, ◌^◌, ◌<◌, ◌≤◌, List, length, map, slice_index, bit_xor}
+use Rattle.std.specs.Prelude.{◌≡◌, ℕ, ◌+◌, ◌-◌, ◌*◌, ◌/◌, ◌%◌, ◌^◌, ◌<◌, ◌≤◌, List, length, slice_index, bit_xor}
 use Rattle.std.specs.List.{fold}
 use Rattle.move_model.specs.declared.network.Trip.{Trip}
 use Rattle.move_model.specs.declared.network.Call.{Call}

@@ -7,7 +7,7 @@
 --     AreAlike trips g h         some trip of the one and some trip of the other have equal places
 --     AreApart trips g h         of some trip of the one and some trip of the other neither is no later
 --     AreRoutes trips groups     the groups are the routes of the trips
-use Rattle.std.specs.Prelude.{◌≡◌, ◌≢◌, ℕ, ◌<◌, ◌≤◌, List, map, length, slice_get, Option, Some}
+use Rattle.std.specs.Prelude.{◌≡◌, ◌≢◌, ℕ, ◌<◌, ◌≤◌, List, map, length, slice_get, Some}
 use Rattle.move_model.specs.declared.network.TripNo.{TripNo}
 use Rattle.move_model.specs.declared.network.Trip.{Trip}
 use Rattle.move_model.specs.declared.network.Call.{Call}

@@ -4,7 +4,7 @@
 --     HasObstacle trips routes ..   a trip of the one route, and a later one of the other that can't stand behind it
 --     IsSplit trips routes n count  the first n trips have numbers below count, which are those of routes
 --     AreLasts routes lasts n       the last trip of each route
-use Rattle.std.specs.Prelude.{◌≡◌, ℕ, ◌<◌, ◌≤◌, List, length, slice_get, slice_index, Option, Some}
+use Rattle.std.specs.Prelude.{◌≡◌, ℕ, ◌<◌, ◌≤◌, List, length, slice_get, slice_index, Some}
 use Rattle.move_model.specs.declared.network.Trip.{Trip}
 use Rattle.move_model.specs.declared.network.Call.{Call}
 use Rattle.route_split.specs.Routes.{place_of, IsNoLater}

@@ -5,12 +5,12 @@
 --     RiseByRoute calls                 they stand by route, and in a route by call, each once
 --     route_of seconds places trips h   the route whose parts of the flat lists the head names
 --     IsIndex routes stops firsts calls the calls of stop x lie from the x-th entry of firsts to the next
-use Rattle.std.specs.Prelude.{◌≡◌, ℕ, ◌+◌, ◌*◌, ◌<◌, ◌≤◌, ◌^◌, ◌⊎◌, ◌↔◌, List, length, map, slice_range, slice_get, slice_index, All, Contains, Option, Some}
+use Rattle.std.specs.Prelude.{◌≡◌, ℕ, ◌+◌, ◌*◌, ◌<◌, ◌≤◌, ◌⊎◌, ◌↔◌, List, length, slice_range, slice_get, slice_index, Contains, Some}
 use Rattle.move_model.specs.declared.network.TripNo.{TripNo}
 use Rattle.route_split.specs.declared.place.Place.{Place}
 use Rattle.route_split.specs.declared.place.RouteCall.{RouteCall}
 use Rattle.route_split.specs.declared.place.Head.{Head}
-use Rattle.route_split.specs.Route.{Route, IsRoute}
+use Rattle.route_split.specs.Route.{Route}
 
 pub record Table : Type 0 where
   pub stops : ℕ

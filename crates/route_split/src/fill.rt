@@ -19,7 +19,12 @@ pub struct Flat {
 }
 
 // The arrivals of a group's trips at one call.
-fn push_arrivals(seconds: &mut Vec<u32>, trips: &[Trip], group: &[TripNo], k: usize) -> Result<(), NoMemory>
+fn push_arrivals(
+    seconds: &mut Vec<u32>,
+    trips: &[Trip],
+    group: &[TripNo],
+    k: usize,
+) -> Result<(), NoMemory>
     requires exist { All (λ t. t.0 < length trips.now) group.now }
     requires calls { All (λ t. k < length (trip_at trips.now t.0).calls) group.now }
     ensures { OnOk result (seconds.new.items ≡ seconds.old.items ++ arrivals_at trips.now group.now k) }
@@ -32,7 +37,12 @@ fn push_arrivals(seconds: &mut Vec<u32>, trips: &[Trip], group: &[TripNo], k: us
 }
 
 // The departures of a group's trips at one call.
-fn push_departures(seconds: &mut Vec<u32>, trips: &[Trip], group: &[TripNo], k: usize) -> Result<(), NoMemory>
+fn push_departures(
+    seconds: &mut Vec<u32>,
+    trips: &[Trip],
+    group: &[TripNo],
+    k: usize,
+) -> Result<(), NoMemory>
     requires exist { All (λ t. t.0 < length trips.now) group.now }
     requires calls { All (λ t. k < length (trip_at trips.now t.0).calls) group.now }
     ensures { OnOk result (seconds.new.items ≡ seconds.old.items ++ departures_at trips.now group.now k) }
@@ -45,7 +55,12 @@ fn push_departures(seconds: &mut Vec<u32>, trips: &[Trip], group: &[TripNo], k: 
 }
 
 // The seconds of a group's trips at so many calls.
-fn push_seconds(seconds: &mut Vec<u32>, trips: &[Trip], group: &[TripNo], calls: usize) -> Result<(), NoMemory>
+fn push_seconds(
+    seconds: &mut Vec<u32>,
+    trips: &[Trip],
+    group: &[TripNo],
+    calls: usize,
+) -> Result<(), NoMemory>
     requires exist { All (λ t. t.0 < length trips.now) group.now }
     requires calls { All (λ t. calls ≤ length (trip_at trips.now t.0).calls) group.now }
     ensures { OnOk result (seconds.new.items ≡ seconds.old.items ++ block trips.now group.now calls) }
@@ -117,7 +132,7 @@ fn push_route(flat: &mut Flat, trips: &[Trip], group: &[TripNo]) -> Result<(), N
         → All (HeadFits flat.new.seconds.items flat.new.places.items flat.new.trips.items) flat.new.heads.items) }
     ensures routes { OnOk result (All (HeadFits flat.old.seconds.items flat.old.places.items flat.old.trips.items) flat.old.heads.items
         → map (route_of flat.new.seconds.items flat.new.places.items flat.new.trips.items) flat.new.heads.items
-            ≡ map (route_of flat.old.seconds.items flat.old.places.items flat.old.trips.items) flat.old.heads.items ++ built trips.now group.now ∷ []) }
+        ≡ map (route_of flat.old.seconds.items flat.old.places.items flat.old.trips.items) flat.old.heads.items ++ built trips.now group.now ∷ []) }
 {
     push_parts(flat, trips, group)?;
     Ok(())

@@ -11,7 +11,11 @@ use std::alloc::Global;
 fn call_follows(c: &Call, d: &Call) -> bool
     ensures { IsTrue result ↔ ((place_of c.now ≡ place_of d.now) × (c.now.arr ≤ d.now.arr) × (c.now.dep ≤ d.now.dep)) }
 {
-    c.stop.0 == d.stop.0 && c.board == d.board && c.alight == d.alight && c.arr <= d.arr && c.dep <= d.dep
+    c.stop.0 == d.stop.0
+        && c.board == d.board
+        && c.alight == d.alight
+        && c.arr <= d.arr
+        && c.dep <= d.dep
 }
 
 /// Whether a trip may stand before another in a route.
@@ -48,7 +52,9 @@ fn next_number(key: u64, call: Call) -> u64
     ensures { result ≡ next_key key (place_of call) }
 {
     let stop = u64::from(call.stop.0);
-    (key ^ (key >> 29)).wrapping_mul(11_400_714_819_323_198_485).wrapping_add(stop)
+    (key ^ (key >> 29))
+        .wrapping_mul(11_400_714_819_323_198_485)
+        .wrapping_add(stop)
 }
 
 // A number of a trip's places: trips with equal places have equal numbers.

@@ -65,7 +65,12 @@ impl Timetable {
     }
 
     /// What `new` gives, with the seconds that a passenger needs to board.
-    pub fn with_buffer(alloc: Global, trips: &Trips, stops: u32, buffer: u32) -> Result<Timetable, NoMemory>
+    pub fn with_buffer(
+        alloc: Global,
+        trips: &Trips,
+        stops: u32,
+        buffer: u32,
+    ) -> Result<Timetable, NoMemory>
         requires few { length trips.now < 2 ^ 32 - 1 }
         requires few_calls { All (λ trip. length trip.calls < 2 ^ 32 - 1) trips.now }
         requires timed { All (λ trip. All Stays trip.calls) trips.now }
@@ -78,7 +83,12 @@ impl Timetable {
     {
         let flat = day_routes(alloc, trips.as_slice(), stops)?;
         let index = index_of(alloc, &flat, stops)?;
-        let Flat { seconds, places, trips, heads } = flat;
+        let Flat {
+            seconds,
+            places,
+            trips,
+            heads,
+        } = flat;
         let Index { firsts, calls } = index;
         Ok(Timetable {
             seconds,
@@ -132,14 +142,20 @@ impl Timetable {
     {
         let head = self.heads[route as usize];
         RouteRows {
-            seconds: &self.seconds[head.second..head.second + 2 * head.calls as usize * head.trips as usize],
+            seconds: &self.seconds[head.second..head.second
+                + 2 * head.calls as usize * head.trips as usize],
             places: &self.places[head.place..head.place + head.calls as usize],
             trips: &self.trips[head.trip..head.trip + head.trips as usize],
         }
     }
 
     /// Marks a route that is not marked, counts one step, and lends the route's rows.
-    pub fn open_route<'a, L: Ledger>(&'a self, route: u32, marks: &mut RoundMarks, opens: &mut Steps<L>) -> RouteRows<'a>
+    pub fn open_route<'a, L: Ledger>(
+        &'a self,
+        route: u32,
+        marks: &mut RoundMarks,
+        opens: &mut Steps<L>,
+    ) -> RouteRows<'a>
         requires exists { route < length self.now.routes }
         requires unmarked { slice_get marks.old route ≡ Some false }
         ensures rows { slice_get self.now.routes route ≡ Some result }

@@ -1,6 +1,5 @@
-use Rattle.std.proofs.Common.{◌≡◌, ◌<◌, ◌≤◌, ◌∙◌, ℕ, List, [], length, map, get_or, sym, ap, subst}
+use Rattle.std.proofs.Common.{◌≡◌, ◌<◌, ◌∙◌, ℕ, List, [], length, map, get_or, sym, ap, subst}
 use Rattle.std.specs.Prelude.{All}
-use Rattle.move_model.specs.declared.network.TripNo.{TripNo}
 use Rattle.route_split.specs.Route.{Route, IsRoute}
 use Rattle.route_split.specs.Calls.{HoldsTrips}
 use Rattle.route_split.specs.Routes.{AreRoutes}
@@ -15,7 +14,7 @@ filled-requires-clause-groups c =
     let is = c.in_ok-split.ensures in
     let are = subst (λ (l : List ℕ). (g : ℕ) → g < count → get_or groups g [] ≡ group_of l g (length l)) c.as_slice-numbers.ensures.value c.in_ok-groups.ensures.groups in
     subst (All (IsGroup c.args.trips.now)) (sym c.as_slice-lists.ensures.value)
-      (all_groups c.args.trips.now c.in_ok-split.split.routes.items count groups c.requires.few is.split is.used c.in_ok-groups.ensures.as_many are)
+    (all_groups c.args.trips.now c.in_ok-split.split.routes.items count groups c.requires.few is.split is.used c.in_ok-groups.ensures.as_many are)
 
 pub returns-clause-whole : goal.returns-clause-whole
 returns-clause-whole c =
@@ -25,8 +24,8 @@ returns-clause-whole c =
     let are = subst (λ (l : List ℕ). (g : ℕ) → g < count → get_or groups g [] ≡ group_of l g (length l)) c.as_slice-numbers.ensures.value c.in_ok-groups.ensures.groups in
     let e = c.in_ok-flat.ensures.routes ∙ ap (map (built c.args.trips.now)) c.as_slice-lists.ensures.value in
     subst (All (IsRoute c.args.stops)) (sym e)
-      (routes_whole c.args.trips.now c.in_ok-split.split.routes.items count groups c.requires.few is.split is.used c.in_ok-groups.ensures.as_many are c.args.stops
-        c.requires.few_calls c.requires.timed c.requires.at_stops)
+    (routes_whole c.args.trips.now c.in_ok-split.split.routes.items count groups c.requires.few is.split is.used c.in_ok-groups.ensures.as_many are c.args.stops
+    c.requires.few_calls c.requires.timed c.requires.at_stops)
 
 pub returns-clause-routes : goal.returns-clause-routes
 returns-clause-routes c =
@@ -37,8 +36,8 @@ returns-clause-routes c =
     let are = subst (λ (l : List ℕ). (g : ℕ) → g < count → get_or groups g [] ≡ group_of l g (length l)) c.as_slice-numbers.ensures.value c.in_ok-groups.ensures.groups in
     let e = c.in_ok-flat.ensures.routes ∙ ap (map (built trips)) c.as_slice-lists.ensures.value in
     subst (λ (l : List Route). AreRoutes trips (map (λ (route : Route). route.trips) l)) (sym e)
-      (subst (AreRoutes trips) (sym (trips-built trips groups))
-        (are_routes trips c.in_ok-split.split.routes.items count groups c.requires.few is.split is.used c.in_ok-groups.ensures.as_many are c.requires.in_order))
+    (subst (AreRoutes trips) (sym (trips-built trips groups))
+    (are_routes trips c.in_ok-split.split.routes.items count groups c.requires.few is.split is.used c.in_ok-groups.ensures.as_many are c.requires.in_order))
 
 pub returns-clause-rows : goal.returns-clause-rows
 returns-clause-rows c =
@@ -48,4 +47,4 @@ returns-clause-rows c =
     let are = subst (λ (l : List ℕ). (g : ℕ) → g < count → get_or groups g [] ≡ group_of l g (length l)) c.as_slice-numbers.ensures.value c.in_ok-groups.ensures.groups in
     let e = c.in_ok-flat.ensures.routes ∙ ap (map (built c.args.trips.now)) c.as_slice-lists.ensures.value in
     subst (HoldsTrips c.args.trips.now) (sym e)
-      (holds c.args.trips.now c.in_ok-split.split.routes.items count groups c.requires.few is.split is.used c.in_ok-groups.ensures.as_many are)
+    (holds c.args.trips.now c.in_ok-split.split.routes.items count groups c.requires.few is.split is.used c.in_ok-groups.ensures.as_many are)

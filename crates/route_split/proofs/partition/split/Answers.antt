@@ -1,4 +1,4 @@
-use Rattle.std.proofs.Common.{◌≡◌, ℕ, ◌+◌, ◌<◌, ◌≤◌, ◌++◌, [], ◌∷◌, List, length, set, subst, sym, ap, ◌∙◌, arith}
+use Rattle.std.proofs.Common.{◌≡◌, ℕ, ◌+◌, ◌<◌, ◌++◌, [], ◌∷◌, List, length, set, subst, sym, ap, ◌∙◌, arith}
 use Rattle.std.specs.Prelude.{slice_index}
 use Rattle.route_split.specs.declared.partition.Chains.{Chains}
 use Rattle.route_split.specs.Split.{IsSplit}
@@ -11,7 +11,7 @@ pub loop-u-init : goal.loop-u-init
 loop-u-init c =
     let chains = c.in_ok-chains.chains in
     let is = so_far_none c.args.trips.now c.new-routes.result.items chains.lasts.items chains.tops.items chains.nexts.items
-      c.new-routes.ensures.items c.in_ok-chains.ensures.lasts c.in_ok-chains.ensures.some c.in_ok-chains.ensures.chained in
+    c.new-routes.ensures.items c.in_ok-chains.ensures.lasts c.in_ok-chains.ensures.some c.in_ok-chains.ensures.chained in
     record { split = is.split; lasts = is.ends; few = is.few; some = is.some; chained = is.chained }
 
 pub loop-u-preserved : goal.loop-u-preserved
@@ -28,25 +28,25 @@ loop-u-preserved c =
     let chains' : Chains = c.match-route_for.chains in
     elim c.match-route_for.branch [
       | in-Some+in_ok-push-in-Some w ↦
-        let g = w.in-Some.g in
-        let er : routes' ≡ routes ++ g ∷ [] = ap (λ v. v.items) w.routes-is ∙ w.in_ok-push-in-Some.ensures.items in
-        let el : chains'.lasts.items ≡ set lasts g u = ap (λ (v : Chains). v.lasts.items) w.chains-is in
-        let et : chains'.tops.items ≡ tops = ap (λ (v : Chains). v.tops.items) w.chains-is in
-        let en : chains'.nexts.items ≡ nexts = ap (λ (v : Chains). v.nexts.items) w.chains-is in
-        let is = so_far_moved trips _ _ _ _ routes' chains'.lasts.items chains'.tops.items chains'.nexts.items (u + 1) er el et en
+          let g = w.in-Some.g in
+          let er : routes' ≡ routes ++ g ∷ [] = ap (λ v. v.items) w.routes-is ∙ w.in_ok-push-in-Some.ensures.items in
+          let el : chains'.lasts.items ≡ set lasts g u = ap (λ (v : Chains). v.lasts.items) w.chains-is in
+          let et : chains'.tops.items ≡ tops = ap (λ (v : Chains). v.tops.items) w.chains-is in
+          let en : chains'.nexts.items ≡ nexts = ap (λ (v : Chains). v.nexts.items) w.chains-is in
+          let is = so_far_moved trips _ _ _ _ routes' chains'.lasts.items chains'.tops.items chains'.nexts.items (u + 1) er el et en
           (so_far_join trips routes lasts tops nexts u c.loop-u-test.true was g w.in-Some.ensures.found w.in-Some.ensures.fits) in
-        record { split = is.split; lasts = is.ends; few = is.few; some = is.some; chained = is.chained }
+          record { split = is.split; lasts = is.ends; few = is.few; some = is.some; chained = is.chained }
       | in-None+in_ok-push-in-None+in_ok-open-in-None w ↦
-        let chain = c.chain_of-chain.result in
-        let n_is : w.len.result ≡ length lasts = omega (arith, w.len.ensures) in
-        let er : routes' ≡ routes ++ length lasts ∷ [] =
+          let chain = c.chain_of-chain.result in
+          let n_is : w.len.result ≡ length lasts = omega (arith, w.len.ensures) in
+          let er : routes' ≡ routes ++ length lasts ∷ [] =
           ap (λ v. v.items) w.routes-is ∙ w.in_ok-push-in-None.ensures.items ∙ ap (λ (n : ℕ). routes ++ n ∷ []) n_is in
-        let el : chains'.lasts.items ≡ lasts ++ u ∷ [] = ap (λ (v : Chains). v.lasts.items) w.chains-is ∙ w.in_ok-open-in-None.ensures.lasts in
-        let et : chains'.tops.items ≡ set tops chain (length lasts + 1) = ap (λ (v : Chains). v.tops.items) w.chains-is ∙ w.in_ok-open-in-None.ensures.tops in
-        let en : chains'.nexts.items ≡ nexts ++ slice_index tops chain ∷ [] = ap (λ (v : Chains). v.nexts.items) w.chains-is ∙ w.in_ok-open-in-None.ensures.nexts in
-        let is = so_far_moved trips _ _ _ _ routes' chains'.lasts.items chains'.tops.items chains'.nexts.items (u + 1) er el et en
+          let el : chains'.lasts.items ≡ lasts ++ u ∷ [] = ap (λ (v : Chains). v.lasts.items) w.chains-is ∙ w.in_ok-open-in-None.ensures.lasts in
+          let et : chains'.tops.items ≡ set tops chain (length lasts + 1) = ap (λ (v : Chains). v.tops.items) w.chains-is ∙ w.in_ok-open-in-None.ensures.tops in
+          let en : chains'.nexts.items ≡ nexts ++ slice_index tops chain ∷ [] = ap (λ (v : Chains). v.nexts.items) w.chains-is ∙ w.in_ok-open-in-None.ensures.nexts in
+          let is = so_far_moved trips _ _ _ _ routes' chains'.lasts.items chains'.tops.items chains'.nexts.items (u + 1) er el et en
           (so_far_open trips routes lasts tops nexts u c.loop-u-test.true was chain c.chain_of-chain.ensures.below c.chain_of-chain.ensures.bucket w.in-None.ensures.none) in
-        record { split = is.split; lasts = is.ends; few = is.few; some = is.some; chained = is.chained }
+          record { split = is.split; lasts = is.ends; few = is.few; some = is.some; chained = is.chained }
     ]
 
 pub returns-clause-split : goal.returns-clause-split
@@ -63,5 +63,5 @@ returns-clause-used c =
     let count_is : c.len-count.result ≡ length lasts = omega (arith, c.len-count.ensures) in
     let all : c.loop-u.u ≡ length c.args.trips.now = omega (arith, c.loop-u-test.false, c.loop-u.auto.u-end) in
     λ g low.
-      let within : g < length lasts = omega (arith, low, count_is) in
-      (slice_index lasts g, omega (arith, c.loop-u.invariant.lasts.within g within, all), c.loop-u.invariant.lasts.in_route g within)
+    let within : g < length lasts = omega (arith, low, count_is) in
+    (slice_index lasts g, omega (arith, c.loop-u.invariant.lasts.within g within, all), c.loop-u.invariant.lasts.in_route g within)

@@ -1,4 +1,4 @@
-use Rattle.std.proofs.Common.{◌≡◌, ◌<◌, ◌≤◌, length}
+use Rattle.std.proofs.Common.{◌<◌, ◌≤◌, length}
 use Rattle.route_split.specs.Split.{IsSplit, AreLasts}
 use Rattle.route_split.specs.Chains.{AreChained}
 use Rattle.route_split.proofs.partition.split.Given as goal

@@ -1,5 +1,5 @@
-use Rattle.std.proofs.Common.{◌≡◌, ◌+◌, ◌<◌, ◌∙◌, false, List, ℕ, length, map, nat_eq, sym, ap, subst, lit<}
-use Rattle.std.specs.Prelude.{All, replicate}
+use Rattle.std.proofs.Common.{◌+◌, ◌<◌, ◌∙◌, false, length, nat_eq, sym, ap, lit<}
+use Rattle.std.specs.Prelude.{replicate}
 use Rattle.std.proofs.lemmas.List.{length-map, length-replicate}
 use Rattle.std.proofs.lemmas.List.Elements.{All-same, All-replicate}
 use Rattle.route_split.proofs.MarkLemmas.{none_marked, all_before_next}
@@ -18,6 +18,6 @@ returns-else-self-lt4294967295 c =
     let round = c.self.inside.round in
     let zeros = c.clear_all.ensures in
     none_marked c.clear_all.new.stamps.items 1
-      (All-same (λ stamp. stamp < 1) _ _ zeros (All-replicate (λ stamp. stamp < 1) (length stamps) 0 (lit< tt)))
+    (All-same (λ stamp. stamp < 1) _ _ zeros (All-replicate (λ stamp. stamp < 1) (length stamps) 0 (lit< tt)))
     ∙ ap (λ n. replicate n false)
-      (ap length zeros ∙ length-replicate (length stamps) 0 ∙ sym (length-map stamps (λ stamp. nat_eq stamp round)) ∙ ap length c.self.view_is)
+    (ap length zeros ∙ length-replicate (length stamps) 0 ∙ sym (length-map stamps (λ stamp. nat_eq stamp round)) ∙ ap length c.self.view_is)

@@ -1,4 +1,4 @@
-use Rattle.std.proofs.Common.{◌≡◌, ◌∙◌, true, set, ap}
+use Rattle.std.proofs.Common.{◌∙◌, true, set, ap}
 use Rattle.route_split.proofs.MarkLemmas.{one_marked}
 use Rattle.route_split.proofs.marks.RoundMarks.mark.Goals as goal
 

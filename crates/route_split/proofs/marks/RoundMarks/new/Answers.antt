@@ -1,5 +1,5 @@
 use Rattle.std.proofs.Common.{◌≡◌, ◌<◌, ◌∙◌, false, length, ap, lit<, rules}
-use Rattle.std.specs.Prelude.{All, replicate}
+use Rattle.std.specs.Prelude.{replicate}
 use Rattle.std.proofs.lemmas.List.{length-replicate}
 use Rattle.std.proofs.lemmas.List.Elements.{All-same, All-replicate}
 use Rattle.route_split.proofs.MarkLemmas.{none_marked}
@@ -10,5 +10,5 @@ returns c =
     let count = c.routes-count.result in
     let zeros : c.in_ok-stamps.stamps.items ≡ replicate count 0 = search rules in
     none_marked c.in_ok-stamps.stamps.items 1
-      (All-same (λ stamp. stamp < 1) _ _ zeros (All-replicate (λ stamp. stamp < 1) count 0 (lit< tt)))
+    (All-same (λ stamp. stamp < 1) _ _ zeros (All-replicate (λ stamp. stamp < 1) count 0 (lit< tt)))
     ∙ ap (λ n. replicate n false) (ap length zeros ∙ length-replicate count 0 ∙ c.routes-count.ensures.count)

@@ -1,4 +1,4 @@
-use Rattle.std.proofs.Common.{◌≡◌, ◌-◌, ◌<◌, ◌≤◌, ℕ, length, subst, sym, arith}
+use Rattle.std.proofs.Common.{◌≡◌, ◌-◌, ◌<◌, length, subst, arith}
 use Rattle.std.specs.Prelude.{slice_index}
 use Rattle.std.proofs.lemmas.List.{get_or_read}
 use Rattle.route_split.specs.Split.{CanStand, CannotStand}
@@ -50,5 +50,5 @@ pub returns-clause-none : goal.returns-clause-none
 returns-clause-none c =
     let was = c.loop-link.invariant in
     none_at_all c.args.trips.now c.args.self.now.lasts.items c.args.self.now.tops.items c.args.self.now.nexts.items c.args.u c.args.chain
-      c.requires.chained c.requires.below c.requires.lasts c.requires.u c.requires.chain
-      (λ g low on. was.tried g low (omega (arith, c.loop-link-test.false)) on)
+    c.requires.chained c.requires.below c.requires.lasts c.requires.u c.requires.chain
+    (λ g low on. was.tried g low (omega (arith, c.loop-link-test.false)) on)
