@@ -422,8 +422,14 @@ fn refuses_too_many_stops(rt: HostRuntime) -> Result<(), Fail> {
     for number in 0..200_001u32 {
         writeln!(text, "{number}")?;
     }
-    let mut bytes = base();
-    bytes.stops = text.as_bytes();
+    let bytes = FeedBytes {
+        stops: text.as_bytes(),
+        calendar: None,
+        dates: None,
+        trips: b"",
+        stop_times: b"",
+        frequencies: None,
+    };
     let found = refusal(rt.alloc(), &bytes);
     let limit = Refusal {
         file: FileKind::Stops,
