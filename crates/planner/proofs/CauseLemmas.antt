@@ -1,5 +1,5 @@
 -- Causes last while counts do not fall, and what a run has sent.
-use Rattle.std.proofs.Common.{◌≡◌, ◌∙◌, ◌≤◌, ◌++◌, ℕ, List, length, Result, Ok, Err, inr, refl, sym, ap, append-nil, le_trans, arith}
+use Rattle.std.proofs.Common.{◌≡◌, ◌∙◌, ◌≤◌, ◌++◌, ℕ, List, length, Result, Ok, Err, IfErr, inr, refl, sym, ap, append-nil, le_trans, arith}
 use Rattle.std.specs.Result.{OnOk, OnErr}
 use Rattle.std.proofs.Math.Seq.{take-length}
 use Rattle.move_files.specs.Outside.{Rose, NeverFalls, SendsPrefix}
@@ -27,6 +27,12 @@ HasCause-later plan m m' m'' f f' f'' status.Done h r = r
 HasCause-later plan m m' m'' f f' f'' status.Usage h r = r
 HasCause-later plan m m' m'' f f' f'' status.WriteFault h r = r
 
+-- the same of a result
+pub err-later : {T : Type 0} (r : Result T Status) (plan : Plan) (m m' m'' f f' f'' : List ℕ → ℕ) → NeverFalls f f' × NeverFalls m m'
+    → IfErr r (HasCause plan m' m'' f' f'') → IfErr r (HasCause plan m m'' f f'')
+err-later (Ok x) plan m m' m'' f f' f'' h r = tt
+err-later (Err s) plan m m' m'' f f' f'' h r = HasCause-later plan m m' m'' f f' f'' s h r
+
 -- whatever a write of the whole answers, a prefix was sent
 pub prefix-sent : {T E : Type 0} (r : Result T E) (old bytes new : List ℕ) → OnOk r (new ≡ old ++ bytes) → OnErr r (SendsPrefix old bytes new) → SendsPrefix old bytes new
 prefix-sent (Ok x) old bytes new ok err = (length bytes, ok ∙ ap (λ t. old ++ t) (sym (take-length bytes)))
@@ -36,6 +42,10 @@ module _ (plan : Plan) (m m' f f' : List ℕ → ℕ) (s : Status) (cause : HasC
   pub HasCause-usage : s ≡ status.Usage → ⊥
   unfolding HasCause
   HasCause-usage is = rw is at cause
+
+  pub HasCause-done : s ≡ status.Done → ⊥
+  unfolding HasCause
+  HasCause-done is = rw is at cause
 
   pub HasCause-write_fault : s ≡ status.WriteFault → ⊥
   unfolding HasCause

@@ -1,10 +1,12 @@
 // The feed's folder, and its trips of the day.
-ghost use Rattle.std.specs.Prelude.{◌≡◌, ℕ, List, IfOk, IfErr};
+ghost use Rattle.std.specs.Prelude.{◌≡◌, ◌≤◌, ℕ, List, length, All, IfOk, IfErr};
 ghost use Rattle.move_files.specs.Outside.{NeverFalls};
 ghost use Rattle.gtfs_feed.specs.Feed.{IsFeed};
 ghost use Rattle.feed_values.specs.Date.{IsDay};
 ghost use Rattle.planner.specs.Words.{Plan, told};
+ghost use Rattle.service_day.specs.DayTrips.{IsDayTrip, call_count, most_trips, most_calls};
 ghost use Rattle.planner.specs.Status.{HasCause};
+ghost use Rattle.planner.specs.Input.{Held, held, HoldsDays, HoldsTrips, IsFeedIn, AreDayTrips};
 
 use crate::inputs::{read_file, read_optional, status_of};
 use crate::status::Status;
@@ -36,6 +38,7 @@ fn read_day_files<F: Files>(
     plan: &PlanWords,
     files: &mut F,
 ) -> Result<DayFiles, Status>
+    ensures told { F.tells → IfOk result (HoldsDays (held (told plan.now) (F.holds files.old))) }
     ensures cause { IfErr result (HasCause (told plan.now) (F.misses files.old) (F.misses files.new) (F.read_faults files.old) (F.read_faults files.new)) }
     ensures contents { F.holds files.new ≡ F.holds files.old }
     ensures counts { NeverFalls (F.read_faults files.old) (F.read_faults files.new) × NeverFalls (F.misses files.old) (F.misses files.new) }
@@ -55,6 +58,7 @@ fn read_trip_files<F: Files>(
     plan: &PlanWords,
     files: &mut F,
 ) -> Result<TripFiles, Status>
+    ensures told { F.tells → IfOk result (HoldsTrips (held (told plan.now) (F.holds files.old))) }
     ensures cause { IfErr result (HasCause (told plan.now) (F.misses files.old) (F.misses files.new) (F.read_faults files.old) (F.read_faults files.new)) }
     ensures contents { F.holds files.new ≡ F.holds files.old }
     ensures counts { NeverFalls (F.read_faults files.old) (F.read_faults files.new) × NeverFalls (F.misses files.old) (F.misses files.new) }
@@ -71,6 +75,7 @@ fn read_trip_files<F: Files>(
 
 // The feed of its files.
 fn feed_of(alloc: Global, days: &DayFiles, trips: &TripFiles) -> Result<Feed, Status>
+    ensures told { (held : Held) → HoldsDays held days.now → HoldsTrips held trips.now → IfOk result (IsFeedIn held) }
     ensures feed { IfOk result IsFeed }
     ensures cause { (plan : Plan) (misses misses' faults faults' : List ℕ → ℕ) → IfErr result (HasCause plan misses misses' faults faults') }
 {
@@ -90,6 +95,7 @@ fn feed_of(alloc: Global, days: &DayFiles, trips: &TripFiles) -> Result<Feed, St
 
 /// Reads the feed's folder.
 pub fn read_folder<F: Files>(alloc: Global, plan: &PlanWords, files: &mut F) -> Result<Feed, Status>
+    ensures told { F.tells → IfOk result (IsFeedIn (held (told plan.now) (F.holds files.old))) }
     ensures feed { IfOk result IsFeed }
     ensures cause { IfErr result (HasCause (told plan.now) (F.misses files.old) (F.misses files.new) (F.read_faults files.old) (F.read_faults files.new)) }
     ensures contents { F.holds files.new ≡ F.holds files.old }
@@ -105,6 +111,10 @@ pub fn read_folder<F: Files>(alloc: Global, plan: &PlanWords, files: &mut F) -> 
 pub fn day_trips(alloc: Global, feed: &Feed, date: u32) -> Result<Trips, Status>
     requires feed { IsFeed feed.now }
     requires date { IsDay date }
+    ensures trips { IfOk result (AreDayTrips date feed.now) }
+    ensures valid { IfOk result (All (IsDayTrip (length feed.now.stops))) }
+    ensures few_trips { IfOk result (λ trips. length trips ≤ most_trips) }
+    ensures few_calls { IfOk result (λ trips. call_count trips ≤ most_calls) }
     ensures cause { (plan : Plan) (misses misses' faults faults' : List ℕ → ℕ) → IfErr result (HasCause plan misses misses' faults faults') }
 {
     let Ok(today) = active(alloc, feed, date) else {

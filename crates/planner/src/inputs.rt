@@ -1,8 +1,10 @@
 // The files that a command reads.
-ghost use Rattle.std.specs.Prelude.{◌≡◌, ◌<◌, ◌≤◌, ◌-◌, ◌^◌, ℕ, List, length, IfOk, IfErr};
+ghost use Rattle.std.specs.Prelude.{◌≡◌, ◌<◌, ◌≤◌, ◌-◌, ◌^◌, ℕ, List, length, Some, None, option_map, IfOk, IfErr, IsErrOf};
+ghost use Rattle.move_model.specs.declared.refusal.FileKind.{FileKind as Kind};
 ghost use Rattle.std.specs.Option.{ForSome};
 ghost use Rattle.move_files.specs.Outside.{NeverFalls};
 ghost use Rattle.planner.specs.Words.{Plan, told, limit_of};
+ghost use Rattle.planner.specs.Input.{held};
 ghost use Rattle.planner.specs.Status.{HasCause};
 
 use crate::status::Status;
@@ -48,6 +50,8 @@ pub fn read_file<F: Files>(
     files: &mut F,
     kind: FileKind,
 ) -> Result<Vec<u8>, Status>
+    ensures told { F.tells → IfOk result (λ bytes. held (told plan.now) (F.holds files.old) kind ≡ Some bytes.items) }
+    ensures missing_told { F.tells → (missing : Kind) → IsErrOf result (Status.NoFile missing) → held (told plan.now) (F.holds files.old) kind ≡ None }
     ensures within { IfOk result (λ bytes. length bytes.items ≤ limit_of kind) }
     ensures cause { IfErr result (HasCause (told plan.now) (F.misses files.old) (F.misses files.new) (F.read_faults files.old) (F.read_faults files.new)) }
     ensures contents { F.holds files.new ≡ F.holds files.old }
@@ -76,6 +80,7 @@ pub fn read_optional<F: Files>(
     files: &mut F,
     kind: FileKind,
 ) -> Result<Option<Vec<u8>>, Status>
+    ensures told { F.tells → IfOk result (λ found. held (told plan.now) (F.holds files.old) kind ≡ option_map (λ bytes. bytes.items) found) }
     ensures within { IfOk result (λ found. ForSome found (λ bytes. length bytes.items ≤ limit_of kind)) }
     ensures cause { IfErr result (HasCause (told plan.now) (F.misses files.old) (F.misses files.new) (F.read_faults files.old) (F.read_faults files.new)) }
     ensures contents { F.holds files.new ≡ F.holds files.old }

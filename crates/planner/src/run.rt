@@ -1,10 +1,18 @@
 // The top call.
-ghost use Rattle.std.specs.Prelude.{◌≡◌, ◌⊎◌, ◌++◌, ◌↔◌, ◌≢◌, ◌≤◌, ◌-◌, ◌<◌, ◌^◌, length, IsNone, IfSome, IfOk, IfErr};
+ghost use Rattle.std.specs.Prelude.{◌≡◌, ◌⊎◌, ◌++◌, ◌↔◌, ◌≢◌, ◌≤◌, ◌-◌, ◌<◌, ◌^◌, ℕ, List, length, All, IsNone, IfSome, IfOk, IfErr, OnOk};
+ghost use Rattle.std.specs.Option.{ForSome};
+ghost use Rattle.move_model.specs.Network.{IsNetwork, IsNumbered, streets};
+ghost use Rattle.query_table.specs.Queries.{IsAt};
+ghost use Rattle.stop_places.specs.Places.{ArePlaced};
+ghost use Rattle.stop_places.specs.Table.{TableAccepted, table_vertex};
+ghost use Rattle.plan_core.specs.Answer.{PrintsAll};
 ghost use Rattle.move_files.specs.Outside.{Rose, NeverFalls, SendsPrefix};
 ghost use Rattle.feed_values.specs.Date.{IsDay};
-ghost use Rattle.planner.specs.Words.{told, plan_of, name_in};
+ghost use Rattle.planner.specs.Words.{Plan, told, plan_of, name_in};
+ghost use Rattle.planner.specs.Input.{held, IsGraphIn, ArePointsIn, AreStopsIn, IsNetworkIn, AreQueriesIn, PrintsInput};
 ghost use Rattle.planner.specs.Status.{HasCause, SendsOnly, line_of};
 ghost use Rattle.move_model.specs.declared.refusal.FileKind.{FileKind};
+ghost use Rattle.move_model.specs.declared.refusal.FileKind.TheVariants as Kind;
 
 use crate::feed::{day_trips, read_folder};
 use crate::inputs::{read_file, read_optional, status_of};
@@ -13,30 +21,56 @@ use crate::status::Status;
 use crate::words::{PlanWords, plan_words};
 use gtfs_feed::Feed;
 use move_files::{Files, Sink, write_whole};
-use move_model::{Cause, FileKind, List, Network, Queries, Refusal, Stops};
+use move_model::{FileKind, List, Network, Queries, Stops, Trips};
 use plan_core::{AnswerStop, answer, compile, read_queries};
 use std::alloc::Global;
 use std::sync::ledger::Ledger;
 use steps::Steps;
-use stop_places::place_stops;
-use street_graph::{Graph, read_gr};
+use stop_match::Grid;
+use stop_places::{Near, place_stops};
+use street_graph::{Graph, read_co, read_gr};
 
 // Reads the street graph.
 #[tactic(auto, unfolding(crate::specs::Status::HasCause))]
 fn read_streets<F: Files>(alloc: Global, plan: &PlanWords, files: &mut F) -> Result<Graph, Status>
+    ensures told { F.tells → IfOk result (IsGraphIn (held (told plan.now) (F.holds files.old))) }
     ensures cause { IfErr result (HasCause (told plan.now) (F.misses files.old) (F.misses files.new) (F.read_faults files.old) (F.read_faults files.new)) }
     ensures contents { F.holds files.new ≡ F.holds files.old }
     ensures counts { NeverFalls (F.read_faults files.old) (F.read_faults files.new) × NeverFalls (F.misses files.old) (F.misses files.new) }
 {
     let bytes = read_file(alloc, plan, files, FileKind::Gr)?;
     match read_gr(alloc, &bytes) {
-        Ok(graph) if plan.co == "-" => Ok(graph),
-        Ok(_) => Err(Status::Refused(Refusal {
-            file: FileKind::Co,
-            row: 0,
-            cause: Cause::Unbuilt,
-        })),
+        Ok(graph) => Ok(graph),
         Err(stopped) => Err(status_of(stopped)),
+    }
+}
+
+// Reads the points of so many vertices, where CO names a file.
+#[tactic(auto, unfolding(crate::specs::Status::HasCause))]
+fn read_points<F: Files>(
+    alloc: Global,
+    plan: &PlanWords,
+    files: &mut F,
+    nodes: u32,
+) -> Result<Option<Grid>, Status>
+    requires { 0 < nodes }
+    ensures told { F.tells → IfOk result (ArePointsIn (told plan.now) (held (told plan.now) (F.holds files.old)) nodes) }
+    ensures one_each { IfOk result (λ points. ForSome points (λ points. length points ≡ nodes)) }
+    ensures cause { IfErr result (HasCause (told plan.now) (F.misses files.old) (F.misses files.new) (F.read_faults files.old) (F.read_faults files.new)) }
+    ensures contents { F.holds files.new ≡ F.holds files.old }
+    ensures counts { NeverFalls (F.read_faults files.old) (F.read_faults files.new) × NeverFalls (F.misses files.old) (F.misses files.new) }
+{
+    if plan.co == "-" {
+        return Ok(None);
+    }
+    let bytes = read_file(alloc, plan, files, FileKind::Co)?;
+    let points = match read_co(alloc, &bytes, nodes) {
+        Ok(points) => points,
+        Err(stopped) => return Err(status_of(stopped)),
+    };
+    match Grid::new(alloc, &points) {
+        Ok(grid) => Ok(Some(grid)),
+        Err(_) => Err(Status::NoMemory),
     }
 }
 
@@ -47,30 +81,66 @@ fn read_places<F: Files>(
     files: &mut F,
     feed: &Feed,
     nodes: u32,
+    near: Option<Near>,
 ) -> Result<Stops, Status>
+    requires scale { IfSome near (λ near. near.scale ≤ 1000) }
+    requires points { IfSome near (λ near. length near.grid.now ≡ nodes) }
+    ensures told { F.tells → IfOk result (ArePlaced (table_vertex (held (told plan.now) (F.holds files.old) Kind.StopNodes)) near.entry feed.now.stops) }
+    ensures accepted { F.tells → OnOk result (TableAccepted feed.now.stops nodes (held (told plan.now) (F.holds files.old) Kind.StopNodes)) }
+    ensures vertices { IfOk result (All (λ stop. (1 ≤ stop.node.0) × (stop.node.0 ≤ nodes))) }
+    ensures as_many { IfOk result (λ placed. length placed ≡ length feed.now.stops) }
     ensures cause { IfErr result (HasCause (told plan.now) (F.misses files.old) (F.misses files.new) (F.read_faults files.old) (F.read_faults files.new)) }
     ensures contents { F.holds files.new ≡ F.holds files.old }
     ensures counts { NeverFalls (F.read_faults files.old) (F.read_faults files.new) × NeverFalls (F.misses files.old) (F.misses files.new) }
 {
     let bytes = read_optional(alloc, plan, files, FileKind::StopNodes)?;
-    match place_stops(alloc, bytes.as_deref(), feed.stops.as_slice(), nodes) {
+    match place_stops(alloc, bytes.as_deref(), feed.stops.as_slice(), nodes, near) {
         Ok(stops) => Ok(stops),
         Err(stopped) => Err(status_of(stopped)),
     }
 }
 
-// Reads the network of the files.
-#[tactic(auto, unfolding(crate::specs::Status::HasCause))]
-fn read_network<F: Files>(alloc: Global, plan: &PlanWords, files: &mut F) -> Result<Network, Status>
-    requires { IsDay plan.now.date }
+// Reads the stops of a feed at their vertices.
+fn read_stops<F: Files>(
+    alloc: Global,
+    plan: &PlanWords,
+    files: &mut F,
+    feed: &Feed,
+    nodes: u32,
+) -> Result<Stops, Status>
+    requires scale { plan.now.scale ≤ 1000 }
+    requires some { 0 < nodes }
+    ensures told { F.tells → IfOk result (AreStopsIn (told plan.now) (held (told plan.now) (F.holds files.old)) feed.now nodes) }
+    ensures vertices { IfOk result (All (λ stop. (1 ≤ stop.node.0) × (stop.node.0 ≤ nodes))) }
+    ensures as_many { IfOk result (λ placed. length placed ≡ length feed.now.stops) }
     ensures cause { IfErr result (HasCause (told plan.now) (F.misses files.old) (F.misses files.new) (F.read_faults files.old) (F.read_faults files.new)) }
     ensures contents { F.holds files.new ≡ F.holds files.old }
     ensures counts { NeverFalls (F.read_faults files.old) (F.read_faults files.new) × NeverFalls (F.misses files.old) (F.misses files.new) }
 {
-    let feed = read_folder(alloc, plan, files)?;
-    let trips = day_trips(alloc, &feed, plan.date)?;
-    let graph = read_streets(alloc, plan, files)?;
-    let stops = read_places(alloc, plan, files, &feed, graph.nodes())?;
+    match read_points(alloc, plan, files, nodes)? {
+        None => read_places(alloc, plan, files, feed, nodes, None),
+        Some(grid) => {
+            let near = Near {
+                grid: &grid,
+                scale: plan.scale,
+            };
+            read_places(alloc, plan, files, feed, nodes, Some(near))
+        }
+    }
+}
+
+// The network of its parts.
+#[tactic(auto, unfolding(crate::specs::Status::HasCause))]
+fn network_of(
+    alloc: Global,
+    graph: &Graph,
+    stops: Stops,
+    trips: Trips,
+    buffer: u32,
+) -> Result<Network, Status>
+    ensures parts { IfOk result (λ n. (streets n ≡ graph.now) × (n.stops ≡ stops) × (n.trips ≡ trips) × (n.buffer ≡ buffer)) }
+    ensures cause { (plan : Plan) (misses misses' faults faults' : List ℕ → ℕ) → IfErr result (HasCause plan misses misses' faults faults') }
+{
     let Ok(arcs) = List::from_slice(alloc, graph.arcs()) else {
         return Err(Status::NoMemory);
     };
@@ -79,8 +149,27 @@ fn read_network<F: Files>(alloc: Global, plan: &PlanWords, files: &mut F) -> Res
         arcs,
         stops,
         trips,
-        buffer: plan.buffer,
+        buffer,
     })
+}
+
+// Reads the network of the files.
+fn read_network<F: Files>(alloc: Global, plan: &PlanWords, files: &mut F) -> Result<Network, Status>
+    requires date { IsDay plan.now.date }
+    requires scale { plan.now.scale ≤ 1000 }
+    ensures told { F.tells → IfOk result (IsNetworkIn (told plan.now) (held (told plan.now) (F.holds files.old))) }
+    ensures network { IfOk result IsNetwork }
+    ensures numbered { IfOk result IsNumbered }
+    ensures cause { IfErr result (HasCause (told plan.now) (F.misses files.old) (F.misses files.new) (F.read_faults files.old) (F.read_faults files.new)) }
+    ensures contents { F.holds files.new ≡ F.holds files.old }
+    ensures counts { NeverFalls (F.read_faults files.old) (F.read_faults files.new) × NeverFalls (F.misses files.old) (F.misses files.new) }
+{
+    let feed = read_folder(alloc, plan, files)?;
+    let trips = day_trips(alloc, &feed, plan.date)?;
+    let graph = read_streets(alloc, plan, files)?;
+    let stops = read_stops(alloc, plan, files, &feed, graph.nodes())?;
+    let network = network_of(alloc, &graph, stops, trips, plan.buffer)?;
+    Ok(network)
 }
 
 // Reads the network and the queries of the files.
@@ -89,7 +178,12 @@ fn read_inputs<F: Files>(
     plan: &PlanWords,
     files: &mut F,
 ) -> Result<(Network, Queries), Status>
-    requires { IsDay plan.now.date }
+    requires date { IsDay plan.now.date }
+    requires scale { plan.now.scale ≤ 1000 }
+    ensures told { F.tells → IfOk result (λ inputs. IsNetworkIn (told plan.now) (held (told plan.now) (F.holds files.old)) inputs.0) }
+    ensures asked { F.tells → IfOk result (λ inputs. AreQueriesIn (held (told plan.now) (F.holds files.old)) inputs.0 inputs.1) }
+    ensures network { IfOk result (λ inputs. IsNetwork inputs.0 × IsNumbered inputs.0) }
+    ensures at { IfOk result (λ inputs. All IsAt inputs.1) }
     ensures few { IfOk result (λ inputs. length inputs.1 ≤ 100000) }
     ensures cause { IfErr result (HasCause (told plan.now) (F.misses files.old) (F.misses files.new) (F.read_faults files.old) (F.read_faults files.new)) }
     ensures contents { F.holds files.new ≡ F.holds files.old }
@@ -113,7 +207,10 @@ fn send_answers<O: Sink, L: Ledger, M: Ledger>(
     searches: &mut Steps<L>,
     opens: &mut Steps<M>,
 ) -> Status
-    requires { length queries.now ≤ 100000 }
+    requires few { length queries.now ≤ 100000 }
+    requires network { IsNetwork network × IsNumbered network }
+    requires at { All IsAt queries.now }
+    ensures printed { O.tells → result ≡ Status.Done → PrintsAll network queries.now (O.sent out.old) (O.sent out.new) }
     ensures ends { (result ≡ Status.Done) ⊎ (result ≡ Status.WriteFault) ⊎ (result ≡ Status.NoMemory) }
     ensures write_fault { result ≡ Status.WriteFault → Rose (O.faults out.old) (O.faults out.new) }
     ensures sent { O.tells → SendsOnly (O.sent out.old) (O.sent out.new) result }
@@ -137,7 +234,10 @@ fn run_plan<F: Files, O: Sink, L: Ledger, M: Ledger>(
     searches: &mut Steps<L>,
     opens: &mut Steps<M>,
 ) -> Status
-    requires { IsDay plan.now.date }
+    requires date { IsDay plan.now.date }
+    requires scale { plan.now.scale ≤ 1000 }
+    ensures done { F.tells → O.tells → result ≡ Status.Done
+        → PrintsInput (told plan.now) (held (told plan.now) (F.holds files.old)) (O.sent out.old) (O.sent out.new) }
     ensures not_usage { result ≢ Status.Usage }
     ensures no_file { (kind : FileKind) → result ≡ Status.NoFile kind → Rose (F.misses files.old (name_in (told plan.now) kind)) (F.misses files.new (name_in (told plan.now) kind)) }
     ensures read_fault { (kind : FileKind) → result ≡ Status.ReadFault kind → Rose (F.read_faults files.old (name_in (told plan.now) kind)) (F.read_faults files.new (name_in (told plan.now) kind)) }
@@ -161,6 +261,8 @@ fn run_command<F: Files, O: Sink, L: Ledger, M: Ledger>(
     searches: &mut Steps<L>,
     opens: &mut Steps<M>,
 ) -> Status
+    ensures done { F.tells → O.tells → result ≡ Status.Done
+        → IfSome (plan_of words.now) (λ plan. PrintsInput plan (held plan (F.holds files.old)) (O.sent out.old) (O.sent out.new)) }
     ensures usage { (result ≡ Status.Usage) ↔ IsNone (plan_of words.now) }
     ensures no_file { (kind : FileKind) → result ≡ Status.NoFile kind
         → IfSome (plan_of words.now) (λ plan. Rose (F.misses files.old (name_in plan kind)) (F.misses files.new (name_in plan kind))) }
@@ -197,6 +299,11 @@ pub fn run<F: Files, O: Sink, E: Sink, L: Ledger, M: Ledger>(
     searches: &mut Steps<L>,
     opens: &mut Steps<M>,
 ) -> Status
+    // On Done the rows of the answers to the queries of QUERIES over the network of the files were sent: for each query
+    // exactly its Pareto set over all journeys of the network, each pair with the legs of a journey that attains it.
+    ensures done { F.tells → O.tells → result ≡ Status.Done
+        → IfSome (plan_of words.now) (λ plan. PrintsInput plan (held plan (F.holds files.old)) (O.sent out.old) (O.sent out.new)) }
+
     // Usage comes exactly where the words are no command; every other stop only where its own count rose.
     ensures usage { (result ≡ Status.Usage) ↔ IsNone (plan_of words.now) }
     ensures no_file { (kind : FileKind) → result ≡ Status.NoFile kind

@@ -162,7 +162,7 @@ fn each_failing_write_leaves_a_prefix(rt: HostRuntime) -> Result<(), Fail> {
 #[test]
 fn tells_what_is_wrong(rt: HostRuntime) -> Result<(), Fail> {
     let alloc = rt.alloc();
-    let rows: [(&str, &str, &[u8], &[u8]); 10] = [
+    let rows: [(&str, &str, &[u8], &[u8]); 11] = [
         (
             "plan base",
             "",
@@ -185,7 +185,13 @@ fn tells_what_is_wrong(rt: HostRuntime) -> Result<(), Fail> {
             "plan base base.gr base.co 20250303 1000 q.csv",
             "",
             b"",
-            b"refused: CO row 0: unbuilt\n",
+            b"no file: CO\n",
+        ),
+        (
+            "plan base base.gr base.co 20250303 1000 q.csv",
+            "base.co",
+            b"p aux sp co 3\n",
+            b"refused: CO row 1: count 3\n",
         ),
         (
             "plan base base.gr base.co 20250303 1000 q.csv",

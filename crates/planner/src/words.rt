@@ -49,6 +49,7 @@ fn plan_with<'a>(
     buffer_word: &str,
 ) -> Option<PlanWords<'a>>
     ensures day { IfSome result (λ words. IsDay words.date) }
+    ensures scale { IfSome result (λ words. words.scale ≤ 1000) }
     ensures value { option_map spec.told result ≡ spec.plan_with feed.now gr.now co.now date_word.now scale_word.now queries.now buffer_word.now }
 {
     let Some(date) = date(date_word.as_bytes()) else {
@@ -75,6 +76,7 @@ fn plan_with<'a>(
 #[tactic(auto, unfolding(crate::specs::Words::plan_of))]
 pub fn plan_words(words: &[String]) -> Option<PlanWords>
     ensures day { IfSome result (λ plan. IsDay plan.date) }
+    ensures scale { IfSome result (λ plan. plan.scale ≤ 1000) }
     ensures value { option_map spec.told result ≡ spec.plan_of words.now }
 {
     match words {

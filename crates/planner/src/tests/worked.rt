@@ -342,3 +342,49 @@ fn answers_over_feeds(rt: HostRuntime) -> Result<(), Fail> {
     )?;
     Ok(())
 }
+
+#[test]
+fn answers_over_a_feed_of_an_agency(rt: HostRuntime) -> Result<(), Fail> {
+    assert_rows(
+        &rt,
+        rt.alloc(),
+        "plan hel hel.gr hel.co 20250303 500 q.csv",
+        &[
+            ("hel/agency.txt", b"agency_name\nHel\n"),
+            (
+                "hel/stops.txt",
+                b"stop_id,stop_code,stop_name,stop_lat,stop_lon,location_type,parent_station\nS1,,Central,60.170000,24.940000,1,\nP1,001,Central platform 1,60.170100,24.940200,0,S1\nP2,002,Harbour,60.160500,24.955000,,\n",
+            ),
+            (
+                "hel/calendar.txt",
+                b"service_id,monday,tuesday,wednesday,thursday,friday,saturday,sunday,start_date,end_date\nWK,1,1,1,1,1,0,0,20250101,20251231\n",
+            ),
+            (
+                "hel/calendar_dates.txt",
+                b"service_id,date,exception_type\n",
+            ),
+            (
+                "hel/frequencies.txt",
+                b"trip_id,start_time,end_time,headway_secs\n",
+            ),
+            (
+                "hel/trips.txt",
+                b"route_id,service_id,trip_id,trip_headsign,direction_id\n10,WK,10_0700,Harbour,0\n10,WK,10_0715,Harbour,0\n",
+            ),
+            (
+                "hel/stop_times.txt",
+                b"trip_id,arrival_time,departure_time,stop_id,stop_sequence,pickup_type,drop_off_type\n10_0700,7:00:00,7:00:00,P1,1,0,1\n10_0700,7:06:00,7:06:00,P2,2,1,0\n10_0715,7:15:00,7:15:00,P1,1,0,1\n10_0715,7:21:00,7:21:00,P2,2,1,0\n",
+            ),
+            (
+                "hel.gr",
+                b"p sp 3 4\na 1 3 500\na 3 1 500\na 3 2 600\na 2 3 600\n",
+            ),
+            (
+                "hel.co",
+                b"p aux sp co 3\nv 1 24940000 60170000\nv 2 24955000 60160000\nv 3 24947000 60165000\n",
+            ),
+        ],
+        b"at,stop:P1,node:2,07:05:00,,4",
+        b"1,1,pair,0,stop:P1,1,node:2,2,07:05:00,,07:23:20\n1,1,walk,,,1,,3,07:05:00,07:13:20,\n1,1,walk,,,3,,2,07:13:20,07:23:20,\n1,2,pair,1,stop:P1,1,node:2,2,07:05:00,,07:21:00\n1,2,ride,10_0715,P1,1,P2,2,07:15:00,07:21:00,\n",
+    )
+}

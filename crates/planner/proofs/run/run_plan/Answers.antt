@@ -1,4 +1,4 @@
-use Rattle.planner.proofs.CauseLemmas.{HasCause-usage, HasCause-write_fault, HasCause-no_file, HasCause-read_fault, SendsOnly-nothing}
+use Rattle.planner.proofs.CauseLemmas.{HasCause-done, HasCause-usage, HasCause-write_fault, HasCause-no_file, HasCause-read_fault, SendsOnly-nothing}
 use Rattle.planner.proofs.run.run_plan.Goals as goal
 
 pub returns-in-Err-clause-not_usage : goal.returns-in-Err-clause-not_usage
@@ -15,3 +15,6 @@ returns-in-Err-clause-write_fault g c = λ is. absurd (HasCause-write_fault _ _ 
 
 pub returns-in-Err-clause-sent : goal.returns-in-Err-clause-sent
 returns-in-Err-clause-sent g c = λ tells. SendsOnly-nothing _ _ _ _ _ _ _ c.in-Err.ensures.cause
+
+pub returns-in-Err-clause-done : goal.returns-in-Err-clause-done
+returns-in-Err-clause-done g c = λ files_tell out_tells is. absurd (HasCause-done _ _ _ _ _ _ c.in-Err.ensures.cause is)
