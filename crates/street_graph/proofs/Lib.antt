@@ -5,5 +5,6 @@ pub mod LineLemmas
 pub mod GrLemmas
 pub mod LimitLemmas
 pub mod RowLemmas
+pub mod GroupLemmas
 pub mod CoLineLemmas
 pub mod CoLemmas
