@@ -68,7 +68,8 @@ impl Grid {
     }
 }
 
-// Of the cells that a cell of the next coarser grid holds, that of the least key.
+// Of the cells that a cell of the next coarser grid holds, that whose middle is nearest: where points stand along a line,
+// the nearest bounds may be far from the nearest point.
 fn least_child(fine: &[Cell], index: usize, target: &Target) -> usize
     requires some { index * 8 < length fine.now }
     requires scale { target.now.scale ≤ 1000 }
@@ -76,12 +77,12 @@ fn least_child(fine: &[Cell], index: usize, target: &Target) -> usize
 {
     let begin = index * 8;
     let mut least = begin;
-    let mut key = target.key(&fine[begin]);
+    let mut square = target.middle_square(&fine[begin]);
     for child in begin..fine.len().min(begin + 8) {
-        let other = target.key(&fine[child]);
-        if other.is_before(&key) {
+        let other = target.middle_square(&fine[child]);
+        if other < square {
             least = child;
-            key = other;
+            square = other;
         }
     }
     least

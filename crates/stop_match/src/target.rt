@@ -41,6 +41,11 @@ fn distance(at: i32, low: i32, high: i32) -> u32
     }
 }
 
+// About the middle of a range.
+fn middle(low: i32, high: i32) -> i32 {
+    low / 2 + high / 2
+}
+
 // The square of a weighted distance.
 fn square(weight: u32, distance: u32) -> u128
     requires { weight ≤ 1000 }
@@ -63,5 +68,14 @@ impl Target {
             square: square(1000, lat) + square(self.scale, lon),
             number: cell.least,
         }
+    }
+
+    // The square of the distance to about the middle of a cell.
+    pub(crate) fn middle_square(&self, cell: &Cell) -> u128
+        requires { self.now.scale ≤ 1000 }
+    {
+        let lat = self.lat.abs_diff(middle(cell.lat_low, cell.lat_high));
+        let lon = self.lon.abs_diff(middle(cell.lon_low, cell.lon_high));
+        square(1000, lat) + square(self.scale, lon)
     }
 }
