@@ -1,5 +1,5 @@
 -- The cells above a point.
-use Rattle.std.proofs.Common.{◌≡◌, ◌∙◌, ◌+◌, ◌/◌, ◌-◌, ◌<◌, ℕ, zero, suc, List, [], ◌∷◌, ◌++◌, length, get_or, refl, inl, inr, arith, add-one}
+use Rattle.std.proofs.Common.{◌≡◌, ◌∙◌, ◌+◌, ◌/◌, ◌-◌, ◌<◌, ◌⊎◌, ℕ, zero, suc, List, [], ◌∷◌, ◌++◌, length, get_or, refl, inl, inr, arith, add-one}
 use Rattle.std.proofs.lemmas.Bool.{cases_lt}
 use Rattle.std.proofs.lemmas.Int.{ints}
 use Rattle.std.proofs.lemmas.List.{get_or_append_left, get_or_push, get_or_default}
@@ -7,7 +7,7 @@ use Rattle.stop_match.specs.declared.cell.Cell.{Cell}
 use Rattle.stop_match.specs.declared.target.Key.{Key}
 use Rattle.stop_match.specs.declared.target.Target.{Target}
 use Rattle.stop_match.specs.Cell.{Within, no_cell, cell_at, cells, cell, AreParents, AreLevels, key_of, IsBefore, IsNoLater}
-use Rattle.stop_match.proofs.KeyLemmas.{key-le, IsNoLater-trans, IsNoLater-not, IsNoLater-parts}
+use Rattle.stop_match.proofs.KeyLemmas.{key-le, IsNoLater-refl, IsNoLater-trans, IsNoLater-not, IsNoLater-parts}
 
 pub Within-refl : (c : Cell) → Within c c
 Within-refl c = record { lat_low = omega (arith, ints); lat_high = omega (arith, ints); lon_low = omega (arith, ints); lon_high = omega (arith, ints); least = omega arith }
@@ -83,3 +83,37 @@ passed levels t best d j p h deep lt e refuses =
     IsNoLater-trans best (key_of t (cell levels d j)) (key_of t (cell levels 0 p))
     (IsNoLater-not (key_of t (cell levels d j)) best refuses)
     (IsNoLater-parts (key_of t (cell levels d j)) (key_of t (cell levels 0 p)) less.0 less.1)
+
+-- one child on: the next key is the least of the last one and those of the points below the child
+pub record IsStep (levels : List (List Cell)) (t : Target) (d child : ℕ) (least next : Key) : Type 0 where
+  pub keeps : IsNoLater next least
+  pub done : (p : ℕ) → p < length (cells levels 0) → cell_at d p ≡ child → IsNoLater next (key_of t (cell levels 0 p))
+  pub real : (next ≡ least) ⊎ ((p : ℕ) × (p < length (cells levels 0)) × (next ≡ key_of t (cell levels 0 p)))
+
+-- a child that is passed over leaves the key
+pub step-passed : (levels : List (List Cell)) (t : Target) (least : Key) (d child : ℕ) → AreLevels levels → d < length levels
+    → (IsBefore (key_of t (cell levels d child)) least → ⊥) → IsStep levels t d child least least
+step-passed levels t least d child h deep refuses =
+    record { keeps = IsNoLater-refl least; done = λ p lt at. passed levels t least d child p h deep lt at refuses; real = inl refl }
+
+pub step-done : (levels : List (List Cell)) (t : Target) (d child : ℕ) (least next : Key) (p : ℕ) → IsStep levels t d child least next
+    → p < length (cells levels 0) → cell_at d p < child + 1 → (cell_at d p < child → IsNoLater least (key_of t (cell levels 0 p)))
+    → IsNoLater next (key_of t (cell levels 0 p))
+step-done levels t d child least next p step lt less earlier =
+    elim (cases_lt (cell_at d p) child) [
+      | inl before ↦ IsNoLater-trans next least (key_of t (cell levels 0 p)) step.keeps (earlier before)
+      | inr here ↦ step.done p lt (omega arith)
+    ]
+
+step-real-of : (levels : List (List Cell)) (t : Target) (best least next : Key)
+    → ((next ≡ least) ⊎ ((p : ℕ) × (p < length (cells levels 0)) × (next ≡ key_of t (cell levels 0 p))))
+    → ((least ≡ best) ⊎ ((p : ℕ) × (p < length (cells levels 0)) × (least ≡ key_of t (cell levels 0 p))))
+    → (next ≡ best) ⊎ ((p : ℕ) × (p < length (cells levels 0)) × (next ≡ key_of t (cell levels 0 p)))
+step-real-of levels t best least next (inr found) before = inr found
+step-real-of levels t best least next (inl e) (inl f) = inl (e ∙ f)
+step-real-of levels t best least next (inl e) (inr g) = inr (g.0, g.1, e ∙ g.2)
+
+pub step-real : (levels : List (List Cell)) (t : Target) (d child : ℕ) (best least next : Key) → IsStep levels t d child least next
+    → ((least ≡ best) ⊎ ((p : ℕ) × (p < length (cells levels 0)) × (least ≡ key_of t (cell levels 0 p))))
+    → (next ≡ best) ⊎ ((p : ℕ) × (p < length (cells levels 0)) × (next ≡ key_of t (cell levels 0 p)))
+step-real levels t d child best least next step before = step-real-of levels t best least next step.real before

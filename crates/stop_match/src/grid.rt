@@ -124,10 +124,14 @@ fn search(levels: &[Level], depth: usize, index: usize, target: &Target, best: K
         return key;
     }
     let begin = index * 8;
-    let end = levels[depth - 1].len().min(begin + 8);
+    let fine = levels[depth - 1].as_slice();
+    let end = fine.len().min(begin + 8);
     let mut least = best;
     for child in begin..end {
-        least = search(levels, depth - 1, child, target, least);
+        // Most cells are passed over: to test them here spares their calls.
+        if target.key(&fine[child]).is_before(&least) {
+            least = search(levels, depth - 1, child, target, least);
+        }
     }
     least
 }
