@@ -1,0 +1,10 @@
+pub mod TimesLemmas
+pub mod RidesLemmas
+pub mod StartsLemmas
+pub mod WalksLemmas
+pub mod LawLemmas
+pub mod TurnLemmas
+pub mod BeginLemmas
+pub mod LaterLemmas
+pub mod ToldLemmas
+pub mod SlotsLemmas
