@@ -1,5 +1,7 @@
 pub mod TimesLemmas
 pub mod RidesLemmas
+pub mod SetLemmas
+pub mod EntriesLemmas
 pub mod StartsLemmas
 pub mod WalksLemmas
 pub mod LawLemmas

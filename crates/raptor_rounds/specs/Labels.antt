@@ -122,4 +122,5 @@ pub record Unmarked (old new : Ready) : Type 0 where
 pub record AreSpans (list : List Shortcut) (n : ℕ) (spans : Spans) : Type 0 where
   pub each : (i : ℕ) (e : Shortcut) → i < n → slice_get list i ≡ Some e
       → (slice_index spans.firsts e.from.0 < 2 ^ 32 - 1) × (slice_index spans.firsts e.from.0 ≤ i) × (i < slice_index spans.ends.items e.from.0)
+  pub begun : (x : ℕ) → slice_index spans.firsts x < 2 ^ 32 - 1 → slice_index spans.firsts x ≤ n
   pub within : (x : ℕ) → slice_index spans.firsts x < 2 ^ 32 - 1 → slice_index spans.ends.items x ≤ n

@@ -1,12 +1,7 @@
 -- Sets and rows that are cleared at once.
---     counts_up n                  the numbers below n
---     IsArranged items places      the items are the numbers below a bound, each at its place
+--     IsArranged items places            the items are the numbers below a bound, each at its place
 --     IsElsewhereNever values written    the row has the greatest second where nothing was written
-use Rattle.std.specs.Prelude.{◌≡◌, ℕ, zero, suc, ◌<◌, ◌-◌, ◌^◌, Bool, false, List, [], ◌∷◌, ◌++◌, length, slice_index, slice_index_or}
-
-unfoldable pub counts_up : ℕ → List ℕ
-counts_up zero = []
-counts_up (suc n) = counts_up n ++ n ∷ []
+use Rattle.std.specs.Prelude.{◌≡◌, ℕ, ◌<◌, ◌-◌, ◌^◌, Bool, false, List, length, slice_index, slice_index_or}
 
 pub record IsArranged (items places : List ℕ) : Type 0 where
   pub one_each : length items ≡ length places

@@ -27,6 +27,18 @@ pub fn new_spans(alloc: Global, stops: u32) -> Result<Spans, NoMemory>
     Ok(Spans { firsts, ends })
 }
 
+// A place of an entry as a number of 32 bits, or one before it.
+fn place_no(place: usize) -> u32
+    ensures low { result < 2 ^ 32 - 1 }
+    ensures no_later { result ≤ place }
+{
+    if place < NEVER as usize {
+        place as u32
+    } else {
+        NEVER - 1
+    }
+}
+
 /// Finds where the entries of each stop stand.
 pub fn span_list(list: &[Shortcut], spans: &mut Spans)
     requires list { All (IsEntryWithin (length spans.old.firsts)) list.now }
@@ -39,8 +51,7 @@ pub fn span_list(list: &[Shortcut], spans: &mut Spans)
     for i in 0..list.len() {
         let at = list[i].from.0;
         if spans.firsts.get(at) == NEVER {
-            let first = if i < NEVER as usize { i as u32 } else { NEVER - 1 };
-            spans.firsts.set(at, first);
+            spans.firsts.set(at, place_no(i));
         }
         spans.ends[at as usize] = i + 1;
     }

@@ -1,6 +1,5 @@
 // Sets of numbers below a bound, in the manner of Briggs and Torczon (1993).
 ghost use Rattle.std.specs.Prelude.{◌≡◌, ◌≢◌, ◌↔◌, ◌<◌, ◌≤◌, ◌^◌, ℕ, true, false, length, slice_get, slice_index, slice_index_or, slice_set, replicate, Contains, IfOk};
-ghost use Rattle.raptor_rounds.specs.Sparse.{counts_up};
 
 use move_model::NoMemory;
 use std::alloc::Global;
@@ -31,7 +30,8 @@ impl Model for SparseSet {
 
 // The numbers below a bound.
 fn numbers(alloc: Global, bound: u32) -> Result<Vec<u32>, NoMemory>
-    ensures { IfOk result (λ xs. xs.items ≡ counts_up bound) }
+    ensures as_many { IfOk result (λ xs. length xs.items ≡ bound) }
+    ensures each { IfOk result (λ xs. (x : ℕ) → x < bound → slice_index xs.items x ≡ x) }
 {
     let mut xs: Vec<u32> = Vec::with_capacity(alloc, bound as usize)?;
     for x in 0..bound {
@@ -83,6 +83,7 @@ impl SparseSet {
     pub fn as_slice(&self) -> &[u32]
         ensures numbers { (x : ℕ) → Contains result.now x ↔ (slice_index_or self.now x false ≡ true) }
         ensures once { (i j : ℕ) → i < j → j < length result.now → slice_index result.now i ≢ slice_index result.now j }
+        ensures within { (i : ℕ) → i < length result.now → slice_index result.now i < length self.now }
         ensures few { length result.now ≤ length self.now }
     {
         &self.items[..self.count as usize]
