@@ -1,10 +1,11 @@
 -- From the kept numbers to the answers.
 use Rattle.std.proofs.Common.{◌≡◌, ◌≢◌, ℕ, zero, suc, ◌+◌, ◌-◌, ◌*◌, ◌^◌, ◌<◌, ◌≤◌, inl, inr, List, [], ◌∷◌, ◌++◌, length, take, drop, map, get_or, nat_lt, subst, sym, refl, ap, ◌∙◌, arith, Bool, true, false, eqb, cond, Option, Some, None}
-use Rattle.std.specs.Prelude.{slice_get, IfSome}
+use Rattle.std.specs.Prelude.{slice_get, IfSome, replicate}
 use Rattle.std.specs.Option.{option_map}
 use Rattle.std.proofs.Math.Seq.{take-append_seam}
 use Rattle.std.proofs.lemmas.List.{length-map, length-take-le, get_or-take, get_or-map}
 use Rattle.std.proofs.lemmas.Option.{slice_get_within, slice_get-map, slice_get-get_or, get_or_from_slice_get, same_Some}
+use Rattle.std.proofs.lemmas.Bool.{le-ltb}
 use Rattle.std.proofs.lemmas.Bool.Decides.{nat_tests}
 use Rattle.move_model.specs.declared.network.Network.{Network}
 use Rattle.move_model.specs.declared.journey.Ride.{Ride}
@@ -16,7 +17,7 @@ use Rattle.raptor_rounds.specs.declared.labels.Best.{Best}
 use Rattle.raptor_rounds.specs.Ways.{Query, HasChain}
 use Rattle.raptor_rounds.specs.Ways.HasChain.{none, link}
 use Rattle.raptor_rounds.specs.Least.{IsBestOf, Ends}
-use Rattle.raptor_rounds.specs.Answers.{before, turned_onto, arrival_of, answer_of, IsAnswer}
+use Rattle.raptor_rounds.specs.Answers.{Arrival, Kept, before, turned_onto, arrival_of, answer_of, IsAnswer}
 use Rattle.raptor_rounds.proofs.LawLemmas.{listed_of, length-turned}
 
 pub chain_before : (slots : List Step) (bound fuel by : ℕ) (rides : List Ride) → length rides ≤ fuel → HasChain slots bound by rides → before slots fuel by ≡ rides
@@ -88,6 +89,20 @@ answers_are q slots bound limit bests small room range best k few =
     subst (IsAnswer q.network q.first q.last q.list q.depart k) (sym at)
     (is_answer q slots bound k b (omega arith) (best k b few (slice_get-get_or bests k none (omega arith))) range)
 
+-- before the first run there is no answer
+pub none_first : (slots : List Step) (limit : ℕ) (b : Best) → 2 ^ 64 - 1 ≤ b.second → map (answer_of slots) (take 1 (replicate (limit + 1) b)) ≡ None ∷ []
+none_first slots limit b big =
+    ap (λ n. map (answer_of slots) (take 1 (replicate n b))) (next limit) ∙ ap (λ t. cond t (Some (arrival_of slots b)) None ∷ []) (le-ltb b.second (2 ^ 64 - 1) big)
+  where
+  next : (n : ℕ) → n + 1 ≡ suc n
+  next n = omega arith
+
 -- a slice that is put back whole
 pub put_back : {X : Type 0} (len : ℕ) (xs ys : List X) → length xs ≡ len → take len (xs ++ drop (length xs) ys) ≡ xs
 put_back len xs ys e = subst (λ n. take n (xs ++ drop (length xs) ys) ≡ xs) e (take-append_seam xs (drop (length xs) ys))
+
+abbrev pub kept : ℕ → ℕ → ℕ → List (Option Arrival) → Kept
+kept stops routes limit answers = record { stops = stops; routes = routes; limit = limit; answers = answers }
+
+pub kept_same : (stops m n limit : ℕ) (a b : List (Option Arrival)) → m ≡ n → a ≡ b → kept stops m limit a ≡ kept stops n limit b
+kept_same stops m n limit a b e f = ap (λ k. kept stops k limit a) e ∙ ap (kept stops n limit) f

@@ -108,12 +108,12 @@ pub fn run_rounds<L: Ledger>(
     ensures counted { opens.new ≤ opens.old + limit * length table.now.routes }
 {
     let _routes = table.routes();
+    let stops = table.stops() as usize;
     reset(first, depart, ready, found);
     bests[0] = Best {
         second: found.best,
         step: found.best_step,
     };
-    let stops = table.stops() as usize;
     let mut base = 0usize;
     for k in 0..limit {
         round(

@@ -17,7 +17,8 @@ loop-i-preserved c =
     let is = slice_get-get_or c.args.list.now i none c.loop-i-test.true in
     let low : e.from.0 < length c.args.spans.now.firsts = (c.requires.list i none c.loop-i-test.true).from_within in
     let in_firsts : e.from.0 < length c.loop-i.spans.firsts = omega (arith, low, was.firsts) in
-    let in_ends : e.from.0 < length c.loop-i.spans.ends.items = omega (arith, low, was.ends, (search rules : length c.loop-i.spans.ends.items ≡ c.loop-i.spans.ends.len)) in
+    let len : length c.loop-i.spans.ends.items ≡ c.loop-i.spans.ends.len = search rules in
+    let in_ends : e.from.0 < length c.loop-i.spans.ends.items = omega (arith, low, was.ends, len) in
     elim c.if-get.branch [
       | then-get w ↦
         let firsts_are : c.if-get.spans.firsts ≡ set c.loop-i.spans.firsts e.from.0 w.place_no.result = ap (λ (s : Spans). s.firsts) w.spans-is ∙ w.set.ensures in

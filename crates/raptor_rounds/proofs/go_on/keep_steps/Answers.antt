@@ -14,8 +14,9 @@ loop-y-preserved c =
     let slots = c.loop-y.slots in
     let steps = c.args.found.now.steps.items in
     let v = c.index.result.now in
-    let low : at < length steps = omega (arith, c.as_slice-stops.ensures.within n c.loop-y-test.true, c.requires.fresh, (search rules : length steps ≡ c.args.found.now.steps.len)) in
-    let room : base + at < length slots = omega (arith, low, c.requires.room, c.loop-y.auto.slots, (search rules : length steps ≡ c.args.found.now.steps.len)) in
+    let len : length steps ≡ c.args.found.now.steps.len = search rules in
+    let low : at < length steps = omega (arith, c.as_slice-stops.ensures.within n c.loop-y-test.true, c.requires.fresh, len) in
+    let room : base + at < length slots = omega (arith, low, c.requires.room, c.loop-y.auto.slots, len) in
     let is : slice_get steps at ≡ Some v = slice_get-get_or steps at v low ∙ ap Some (sym c.index.ensures) in
     record {
       below = λ i lt. let other : i ≢ base + at = omega arith in set_elsewhere slots (base + at) i v other ∙ was.below i lt;

@@ -1,10 +1,23 @@
-use Rattle.std.proofs.Common.{◌≡◌, ◌<◌, ◌≤◌, ◌-◌, ◌^◌, ℕ, length, set, true, refl, ap, ◌∙◌, arith, rules}
+use Rattle.std.proofs.Common.{◌≡◌, ◌<◌, ◌≤◌, ◌-◌, ◌^◌, ℕ, length, set, true, None, refl, ap, subst, ◌∙◌, arith, rules}
+use Rattle.std.proofs.lemmas.Option.{slice_get_within, get_or_from_slice_get}
+use Rattle.std.proofs.lemmas.List.Elements.{All-get_or}
+use Rattle.raptor_rounds.specs.Answers.{HasSeconds}
 use Rattle.std.specs.Prelude.{vec_len}
 use Rattle.std.proofs.lemmas.List.{length-set}
 use Rattle.raptor_rounds.specs.declared.labels.Ready.{Ready}
 use Rattle.raptor_rounds.proofs.BeginLemmas.{reset_some, reset_none}
 use Rattle.raptor_rounds.proofs.turns.reset.Goals as goal
 use Rattle.raptor_rounds.proofs.turns.reset.Goals.{then-second-lt-NEVER, else-second-lt-NEVER}
+
+pub loop-x-init : goal.loop-x-init
+loop-x-init c = record { sizes = c.forget.ensures.sizes; reset = c.forget.ensures.reset c.args.first.now c.args.depart; best = c.forget.ensures.best }
+
+pub start_second-second-requires : goal.start_second-second-requires
+start_second-second-requires c =
+    let first = c.args.first.now in
+    let x = c.loop-x.x in
+    subst HasSeconds (get_or_from_slice_get first x c.get.result None c.get.ensures)
+    (All-get_or HasSeconds first x None (slice_get_within first x c.get.result c.get.ensures) c.requires.bound)
 
 pub loop-x-preserved : goal.loop-x-preserved
 loop-x-preserved c =
