@@ -1,7 +1,7 @@
 -- The start of a run.
-use Rattle.std.proofs.Common.{◌≡◌, ◌≢◌, ℕ, zero, suc, ◌+◌, ◌-◌, ◌*◌, ◌^◌, ◌<◌, ◌≤◌, inl, inr, min, nat_lt, List, [], ◌∷◌, length, get_or, set, subst, sym, refl, ap, ◌∙◌, arith, Bool, true, false, Option, Some, None, get_or-set_same, get_or-set_other}
-use Rattle.std.specs.Prelude.{Contains, All, MatchOption, slice_get, slice_index, slice_index_or, slice_set, vec_len, IsTrue}
-use Rattle.std.proofs.lemmas.Option.{slice_get_within, same_Some, slice_get-get_or, get_or_from_slice_get}
+use Rattle.std.proofs.Common.{◌≡◌, ◌≢◌, ℕ, ◌+◌, ◌-◌, ◌^◌, ◌<◌, ◌≤◌, inl, inr, min, List, [], length, set, subst, sym, refl, ap, ◌∙◌, arith, true, false, Option, Some, None, get_or-set_same, get_or-set_other}
+use Rattle.std.specs.Prelude.{All, MatchOption, slice_get, slice_index, slice_index_or, slice_set}
+use Rattle.std.proofs.lemmas.Option.{slice_get_within, same_Some, get_or_from_slice_get}
 use Rattle.std.proofs.lemmas.List.{length-set, get_or_past}
 use Rattle.std.proofs.lemmas.List.Elements.{All-get_or}
 use Rattle.std.proofs.lemmas.Bool.{cases_lt, false≢true}
@@ -11,26 +11,26 @@ use Rattle.move_model.specs.declared.journey.Shortcut.{Shortcut}
 use Rattle.move_model.specs.Listed.{HasEntry, HasTransfer, IsListed}
 use Rattle.move_model.specs.Listed.IsListed.{begins}
 use Rattle.route_split.specs.declared.place.Place.{Place}
-use Rattle.route_split.specs.Route.{Route, IsRoute, arrivals_of, departures_of}
+use Rattle.route_split.specs.Route.{Route, IsRoute}
 use Rattle.route_split.specs.Table.{Table}
 use Rattle.raptor_rounds.specs.declared.labels.Step.{Step}
 use Rattle.raptor_rounds.specs.declared.labels.Found.{Found}
 use Rattle.raptor_rounds.specs.declared.labels.Ready.{Ready}
 use Rattle.raptor_rounds.specs.declared.labels.Best.{Best}
-use Rattle.raptor_rounds.specs.Ways.{Query, IsReady, Leaves, HasChain}
+use Rattle.raptor_rounds.specs.Ways.{Query, IsReady, HasChain}
 use Rattle.raptor_rounds.specs.Ways.IsReady.{at_first, goes_on}
-use Rattle.raptor_rounds.specs.Ways.HasChain.{none, link}
-use Rattle.raptor_rounds.specs.Labels.{Scope, AllReady, IsFound, Scanned, Covers}
+use Rattle.raptor_rounds.specs.Ways.HasChain.{none}
+use Rattle.raptor_rounds.specs.Labels.{Covers}
 use Rattle.raptor_rounds.specs.Answers.{IsEntryWithin}
-use Rattle.raptor_rounds.specs.Least.{LeastReady, Walked, Closed, Sizes, FirstKnown, Stands, IsBestOf, Asks, IsReset, scope}
+use Rattle.raptor_rounds.specs.Least.{Closed, Sizes, FirstKnown, Stands, IsBestOf, Asks, IsReset}
 use Rattle.raptor_rounds.proofs.TimesLemmas.{departs_before, stop_within}
 
 pub start_known : (first : List (Option ℕ)) (depart x v : ℕ) (walk : Option ℕ) → slice_get first x ≡ Some walk
     → MatchOption walk (v ≡ 2 ^ 32 - 1) (λ m. v ≡ min (depart + m) (2 ^ 32 - 1)) → (m : ℕ) → slice_get first x ≡ Some (Some m) → v ≤ depart + m
 start_known first depart x v None at is m e = absurd (none_some m (same_Some None (Some m) (sym at ∙ e)))
   where
-  none_some : (m : ℕ) → None ≡ Some m → ⊥
-  none_some m e = cc
+    none_some : (m : ℕ) → None ≡ Some m → ⊥
+    none_some m e = cc
 start_known first depart x v (Some k) at is m e =
     let same : k ≡ m = same_Some k m (same_Some (Some k) (Some m) (sym at ∙ e)) in omega (arith, is, same)
 
@@ -59,36 +59,36 @@ module _ (first : List (Option ℕ)) (depart n v : ℕ) (walk : Option ℕ) (rea
 
   known_more : (x m : ℕ) → x < n + 1 → slice_get first x ≡ Some (Some m) → slice_index ready'.seconds x ≤ depart + m
   known_more x m lt e = elim (cases_lt x n) [
-      | inl less ↦ let other : x ≢ n = omega arith in omega (arith, others x other, was.known x m less e)
-      | inr ge ↦ let same : n ≡ x = omega arith in
-          omega (arith, now_at x same, start_known first depart n v walk at is m (subst (λ k. slice_get first k ≡ Some (Some m)) (sym same) e))
+    | inl less ↦ let other : x ≢ n = omega arith in omega (arith, others x other, was.known x m less e)
+    | inr ge ↦ let same : n ≡ x = omega arith in
+        omega (arith, now_at x same, start_known first depart n v walk at is m (subst (λ k. slice_get first k ≡ Some (Some m)) (sym same) e))
   ]
 
   sound_more : (x : ℕ) → x < n + 1 → slice_index ready'.seconds x < 2 ^ 32 - 1 → (m : ℕ) × (slice_get first x ≡ Some (Some m)) × (slice_index ready'.seconds x ≡ depart + m)
   sound_more x lt sure = elim (cases_lt x n) [
-      | inl less ↦ let other : x ≢ n = omega arith in
-          let old = was.sound x less (omega (arith, others x other, sure)) in (old.0, old.1, others x other ∙ old.2)
-      | inr ge ↦ let same : n ≡ x = omega arith in
-          let new = start_sound first depart n v walk at is (omega (arith, now_at x same, sure)) in
-          (new.0, subst (λ k. slice_get first k ≡ Some (Some new.0)) same new.1, now_at x same ∙ new.2)
+    | inl less ↦ let other : x ≢ n = omega arith in
+        let old = was.sound x less (omega (arith, others x other, sure)) in (old.0, old.1, others x other ∙ old.2)
+    | inr ge ↦ let same : n ≡ x = omega arith in
+        let new = start_sound first depart n v walk at is (omega (arith, now_at x same, sure)) in
+        (new.0, subst (λ k. slice_get first k ≡ Some (Some new.0)) same new.1, now_at x same ∙ new.2)
   ]
 
   by_more : (x : ℕ) → x < n + 1 → slice_index ready'.seconds x < 2 ^ 32 - 1 → slice_index ready'.by.items x ≡ 0
   by_more x lt sure = elim (cases_lt x n) [
-      | inl less ↦ let other : x ≢ n = omega arith in by_others x other ∙ was.by x less (omega (arith, others x other, sure))
-      | inr ge ↦ let same : n ≡ x = omega arith in subst (λ k. slice_index ready'.by.items k ≡ 0) same (by_now (omega (arith, now_at x same, sure)))
+    | inl less ↦ let other : x ≢ n = omega arith in by_others x other ∙ was.by x less (omega (arith, others x other, sure))
+    | inr ge ↦ let same : n ≡ x = omega arith in subst (λ k. slice_index ready'.by.items k ≡ 0) same (by_now (omega (arith, now_at x same, sure)))
   ]
 
   bounded_more : (x : ℕ) → x < n + 1 → slice_index ready'.seconds x ≤ 2 ^ 32 - 1
   bounded_more x lt = elim (cases_lt x n) [
-      | inl less ↦ let other : x ≢ n = omega arith in omega (arith, others x other, was.bounded x less)
-      | inr ge ↦ let same : n ≡ x = omega arith in omega (arith, now_at x same, start_bounded depart v walk is)
+    | inl less ↦ let other : x ≢ n = omega arith in omega (arith, others x other, was.bounded x less)
+    | inr ge ↦ let same : n ≡ x = omega arith in omega (arith, now_at x same, start_bounded depart v walk is)
   ]
 
   marked_more : (x : ℕ) → x < n + 1 → slice_index_or ready'.better x false ≡ false → slice_index ready'.seconds x ≡ 2 ^ 32 - 1
   marked_more x lt e = elim (cases_lt x n) [
-      | inl less ↦ let other : x ≢ n = omega arith in others x other ∙ was.marked x less (sym (marked_others x other) ∙ e)
-      | inr ge ↦ let same : n ≡ x = omega arith in now_at x same ∙ marked_now (subst (λ k. slice_index_or ready'.better k false ≡ false) (sym same) e)
+    | inl less ↦ let other : x ≢ n = omega arith in others x other ∙ was.marked x less (sym (marked_others x other) ∙ e)
+    | inr ge ↦ let same : n ≡ x = omega arith in now_at x same ∙ marked_now (subst (λ k. slice_index_or ready'.better k false ≡ false) (sym same) e)
   ]
 
   pub reset_more : IsReset first depart (n + 1) ready' found
@@ -136,8 +136,8 @@ module _ (table : Table) (list : List Shortcut) (first last : List (Option ℕ))
 
   walked_first : (y x : StopNo) (m : ℕ) → HasTransfer list y x m → min (slice_index ready.seconds x.0) found.best ≤ slice_index found.left y.0 + m
   walked_first y x m (inl (same, still)) = elim (cases_lt y.0 table.stops) [
-      | inl lt ↦ omega (arith, is.bounded y.0 lt, none_left y.0 lt, ap (λ (v : StopNo). slice_index ready.seconds v.0) same)
-      | inr ge ↦ omega (arith, get_or_past ready.seconds y.0 0 (omega (arith, ge, sizes.seconds)), ap (λ (v : StopNo). slice_index ready.seconds v.0) same)
+    | inl lt ↦ omega (arith, is.bounded y.0 lt, none_left y.0 lt, ap (λ (v : StopNo). slice_index ready.seconds v.0) same)
+    | inr ge ↦ omega (arith, get_or_past ready.seconds y.0 0 (omega (arith, ge, sizes.seconds)), ap (λ (v : StopNo). slice_index ready.seconds v.0) same)
   ]
   walked_first y x m (inr (i, lt, at)) =
       let e : Shortcut = record { from = y; to = x; seconds = m } in
@@ -147,12 +147,12 @@ module _ (table : Table) (list : List Shortcut) (first last : List (Option ℕ))
   pub closed_first : Closed table list ready found
   closed_first = record {
     scanned = λ r i route place at at_place not_better.
-      let known = is.marked place.stop.0 (stop_within table.stops route i place (route_whole r route at) at_place) not_better in
-      record {
-        each = λ j p on off forward at_on at_off may_on may_off in_row sooner early.
-          let on_is : place ≡ on = same_Some place on (sym at_place ∙ at_on) in
-          absurd (omega (arith, departs_before table.stops route i p (route_whole r route at), early, known, ap (λ (v : Place). slice_index ready.seconds v.stop.0) on_is));
-      };
+        let known = is.marked place.stop.0 (stop_within table.stops route i place (route_whole r route at) at_place) not_better in
+        record {
+          each = λ j p on off forward at_on at_off may_on may_off in_row sooner early.
+              let on_is : place ≡ on = same_Some place on (sym at_place ∙ at_on) in
+              absurd (omega (arith, departs_before table.stops route i p (route_whole r route at), early, known, ap (λ (v : Place). slice_index ready.seconds v.stop.0) on_is));
+        };
     walked = record { each = walked_first };
   }
 
@@ -166,8 +166,8 @@ module _ (table : Table) (list : List Shortcut) (first last : List (Option ℕ))
     first_known : FirstKnown q ready.seconds
     first_known = record {
       each = λ x m entry.
-        let at = entry_first x m entry in
-        omega (arith, is.known x.0 m (omega (arith, slice_get_within first x.0 (Some m) at, as_first)) at, asks.depart_is);
+          let at = entry_first x m entry in
+          omega (arith, is.known x.0 m (omega (arith, slice_get_within first x.0 (Some m) at, as_first)) at, asks.depart_is);
     }
 
     none_before : (rides : List Ride) (x : StopNo) (r : ℕ) → length rides ≤ 0 → IsReady q rides x r → min (slice_index ready.seconds x.0) found.best ≤ r
@@ -180,16 +180,16 @@ module _ (table : Table) (list : List Shortcut) (first last : List (Option ℕ))
       ready_least = record { each = none_before };
       ready_sound = record {
         each = λ x lt sure.
-          let here : x.0 < table.stops = omega (arith, lt, sizes.seconds) in
-          let way = is.sound x.0 here sure in
-          record {
-            rides = [];
-            chain = subst (λ b. HasChain slots 0 b []) (sym (is.by x.0 here sure)) none;
-            few = omega arith;
-            second = slice_index ready.seconds x.0;
-            no_later = omega arith;
-            is_ready = at_first (subst (λ row. slice_get row x.0 ≡ Some (Some way.0)) (sym asks.first_is) way.1) (omega (arith, way.2, asks.depart_is));
-          };
+            let here : x.0 < table.stops = omega (arith, lt, sizes.seconds) in
+            let way = is.sound x.0 here sure in
+            record {
+              rides = [];
+              chain = subst (λ b. HasChain slots 0 b []) (sym (is.by x.0 here sure)) none;
+              few = omega arith;
+              second = slice_index ready.seconds x.0;
+              no_later = omega arith;
+              is_ready = at_first (subst (λ row. slice_get row x.0 ≡ Some (Some way.0)) (sym asks.first_is) way.1) (omega (arith, way.2, asks.depart_is));
+            };
       };
       found_sound = record {
         each = λ x step at lt. absurd (omega (arith, lt, none_left x.0 (omega (arith, slice_get_within found.steps.items x.0 step at, sizes.steps))));

@@ -15,9 +15,11 @@ pub contains_range : (xs : List Shortcut) (a b i : ℕ) (e : Shortcut) → a ≤
 contains_range xs a b i e from to within is =
     let k : ℕ = i - a in
     let back : a + k ≡ i = omega arith in
-    let long : b - a ≤ length (drop a xs) = simp length-drop (omega arith) in
-    (k, omega (arith, length-take-le (b - a) (drop a xs) long),
-      get_or-take (b - a) (drop a xs) k e (omega arith) ∙ get_or-drop a xs k e ∙ ap (λ j. get_or xs j e) back ∙ is)
+    let long : b - a ≤ length (drop a xs) = simp length-drop (omega arith) in (
+      k,
+      omega (arith, length-take-le (b - a) (drop a xs) long),
+      get_or-take (b - a) (drop a xs) k e (omega arith) ∙ get_or-drop a xs k e ∙ ap (λ j. get_or xs j e) back ∙ is,
+    )
 
 -- where an entry stands
 pub record Place (list : List Shortcut) (spans : Spans) (from : StopNo) (e : Shortcut) : Type 0 where
@@ -57,42 +59,46 @@ pub spans_more : (list : List Shortcut) (n at : ℕ) (e : Shortcut) (old new : S
     → AreSpans list (n + 1) new
 spans_more list n at e old new was is at_is low no_later stay others end ends = record { each = each; begun = begun; within = within }
   where
-  end_of : (x : ℕ) → (slice_index new.ends.items x ≡ n + 1) ⊎ (slice_index new.ends.items x ≡ slice_index old.ends.items x)
-  end_of x = elim (cases_eq x at) [
+    end_of : (x : ℕ) → (slice_index new.ends.items x ≡ n + 1) ⊎ (slice_index new.ends.items x ≡ slice_index old.ends.items x)
+    end_of x = elim (cases_eq x at) [
       | inl same ↦ inl (ap (slice_index new.ends.items) same ∙ end)
       | inr other ↦ inr (ends x other)
-  ]
+    ]
 
-  each : (i : ℕ) (f : Shortcut) → i < n + 1 → slice_get list i ≡ Some f
-      → (slice_index new.firsts f.from.0 < 2 ^ 32 - 1) × (slice_index new.firsts f.from.0 ≤ i) × (i < slice_index new.ends.items f.from.0)
-  each i f lt here = elim (cases_lt i n) [
+    each : (i : ℕ) (f : Shortcut) → i < n + 1 → slice_get list i ≡ Some f
+        → (slice_index new.firsts f.from.0 < 2 ^ 32 - 1) × (slice_index new.firsts f.from.0 ≤ i) × (i < slice_index new.ends.items f.from.0)
+    each i f lt here = elim (cases_lt i n) [
       | inl less ↦
-        let old_one = was.each i f less here in
-        let same = stay f.from.0 old_one.0 in
-        (omega (arith, same, old_one.0), omega (arith, same, old_one.1), elim (end_of f.from.0) [
-          | inl now ↦ omega (arith, now, less)
-          | inr before ↦ omega (arith, before, old_one.2)
-        ])
+          let old_one = was.each i f less here in
+          let same = stay f.from.0 old_one.0 in (
+            omega (arith, same, old_one.0),
+            omega (arith, same, old_one.1),
+            elim (end_of f.from.0) [
+              | inl now ↦ omega (arith, now, less)
+              | inr before ↦ omega (arith, before, old_one.2)
+            ],
+          )
       | inr ge ↦
-        let same : i ≡ n = omega arith in
-        let e_is : e ≡ f = same_Some e f (sym is ∙ subst (λ k. slice_get list k ≡ Some f) same here) in
-        let at_f : at ≡ f.from.0 = at_is ∙ ap (λ (v : Shortcut). v.from.0) e_is in
-        (subst (λ k. slice_index new.firsts k < 2 ^ 32 - 1) at_f low,
-          subst (λ k. slice_index new.firsts k ≤ i) at_f (omega (arith, no_later, same)),
-          subst (λ k. i < slice_index new.ends.items k) at_f (omega (arith, end, same)))
-  ]
+          let same : i ≡ n = omega arith in
+          let e_is : e ≡ f = same_Some e f (sym is ∙ subst (λ k. slice_get list k ≡ Some f) same here) in
+          let at_f : at ≡ f.from.0 = at_is ∙ ap (λ (v : Shortcut). v.from.0) e_is in (
+            subst (λ k. slice_index new.firsts k < 2 ^ 32 - 1) at_f low,
+            subst (λ k. slice_index new.firsts k ≤ i) at_f (omega (arith, no_later, same)),
+            subst (λ k. i < slice_index new.ends.items k) at_f (omega (arith, end, same)),
+          )
+    ]
 
-  begun : (x : ℕ) → slice_index new.firsts x < 2 ^ 32 - 1 → slice_index new.firsts x ≤ n + 1
-  begun x lt = elim (cases_eq x at) [
+    begun : (x : ℕ) → slice_index new.firsts x < 2 ^ 32 - 1 → slice_index new.firsts x ≤ n + 1
+    begun x lt = elim (cases_eq x at) [
       | inl same ↦ subst (λ k. slice_index new.firsts k ≤ n + 1) (sym same) (omega (arith, no_later))
       | inr other ↦ omega (arith, others x other, was.begun x (omega (arith, others x other, lt)))
-  ]
+    ]
 
-  within : (x : ℕ) → slice_index new.firsts x < 2 ^ 32 - 1 → slice_index new.ends.items x ≤ n + 1
-  within x lt = elim (cases_eq x at) [
+    within : (x : ℕ) → slice_index new.firsts x < 2 ^ 32 - 1 → slice_index new.ends.items x ≤ n + 1
+    within x lt = elim (cases_eq x at) [
       | inl same ↦ subst (λ k. slice_index new.ends.items k ≤ n + 1) (sym same) (omega (arith, end))
       | inr other ↦ omega (arith, ends x other, was.within x (omega (arith, others x other, lt)))
-  ]
+    ]
 
 -- an entry of a stop that had none
 pub spans_first : (list : List Shortcut) (n at first : ℕ) (e : Shortcut) (old new : Spans) → AreSpans list n old → slice_get list n ≡ Some e → at ≡ e.from.0
@@ -101,7 +107,7 @@ pub spans_first : (list : List Shortcut) (n at first : ℕ) (e : Shortcut) (old 
 spans_first list n at first e old new was is at_is none in_firsts in_ends low no_later firsts_are ends_are =
     let now : slice_index new.firsts at ≡ first = ap (λ l. slice_index l at) firsts_are ∙ get_or-set_same old.firsts at first 0 in_firsts in
     let others : (x : ℕ) → x ≢ at → slice_index new.firsts x ≡ slice_index old.firsts x =
-      λ x other. ap (λ l. slice_index l x) firsts_are ∙ get_or-set_other old.firsts at x first 0 other in
+    λ x other. ap (λ l. slice_index l x) firsts_are ∙ get_or-set_other old.firsts at x first 0 other in
     spans_more list n at e old new was is at_is (omega (arith, now, low)) (omega (arith, now, no_later))
     (λ x lt. others x (λ e. omega (arith, lt, none, ap (slice_index old.firsts) e)))
     others

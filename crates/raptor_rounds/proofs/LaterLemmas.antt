@@ -1,6 +1,6 @@
 -- After a round.
-use Rattle.std.proofs.Common.{◌≡◌, ◌≢◌, ℕ, zero, suc, ◌+◌, ◌-◌, ◌*◌, ◌^◌, ◌<◌, ◌≤◌, inl, inr, min, List, [], ◌∷◌, length, subst, sym, refl, ap, ◌∙◌, arith, Option, Some, None, get_or, get_or-set_same, get_or-set_other}
-use Rattle.std.specs.Prelude.{All, IfSome, slice_get, slice_index, slice_set, vec_len}
+use Rattle.std.proofs.Common.{◌≡◌, ◌≢◌, ℕ, suc, ◌+◌, ◌-◌, ◌^◌, ◌<◌, ◌≤◌, inl, inr, List, length, subst, sym, refl, ap, ◌∙◌, arith, Option, Some, None, get_or, get_or-set_same, get_or-set_other}
+use Rattle.std.specs.Prelude.{All, IfSome, slice_get, slice_index, slice_set}
 use Rattle.std.proofs.lemmas.Option.{slice_get_within, slice_get-get_or, get_or_from_slice_get}
 use Rattle.std.proofs.lemmas.List.{length-set}
 use Rattle.std.proofs.lemmas.List.Elements.{All-get_or}
@@ -9,7 +9,7 @@ use Rattle.move_model.specs.declared.network.StopNo.{StopNo}
 use Rattle.move_model.specs.declared.journey.Ride.{Ride}
 use Rattle.move_model.specs.declared.network.Call.{Call}
 use Rattle.move_model.specs.Listed.{IsListed}
-use Rattle.route_split.specs.Route.{Route, IsRoute, arrivals_of}
+use Rattle.route_split.specs.Route.{IsRoute}
 use Rattle.route_split.specs.Table.{Table}
 use Rattle.route_split.specs.Calls.{IsTableOf}
 use Rattle.raptor_rounds.specs.declared.labels.Step.{Step}
@@ -17,8 +17,8 @@ use Rattle.raptor_rounds.specs.declared.labels.Found.{Found}
 use Rattle.raptor_rounds.specs.declared.labels.Ready.{Ready}
 use Rattle.raptor_rounds.specs.declared.labels.Best.{Best}
 use Rattle.raptor_rounds.specs.Ways.{Query, Leaves}
-use Rattle.raptor_rounds.specs.Labels.{AllReady, IsFound, Covers}
-use Rattle.raptor_rounds.specs.Least.{LeastReady, LeastLeft, FirstKnown, GoesOn, Stands, Ends, IsBestOf, scope}
+use Rattle.raptor_rounds.specs.Labels.{AllReady, Covers}
+use Rattle.raptor_rounds.specs.Least.{LeastReady, GoesOn, Stands, IsBestOf, scope}
 use Rattle.raptor_rounds.proofs.TimesLemmas.{arrives_before}
 use Rattle.raptor_rounds.proofs.LawLemmas.{row_call, ending}
 use Rattle.raptor_rounds.proofs.TurnLemmas.{Agrees, best_widens, found_widens}
@@ -32,7 +32,7 @@ arrival_in_time q table rides ride x a is whole leaves =
     let is_row = is.holds.rows_are row.r row.route row.is_route row.p ride.trip row.is_row in
     let off = row_call q.network row.route row.p ride.trip ride.alight leaves.off is_row at in
     let route_whole = subst (IsRoute table.stops) (get_or_from_slice_get table.routes row.r row.route row.route row.is_route)
-      (All-get_or (IsRoute table.stops) table.routes row.r row.route (slice_get_within table.routes row.r row.route row.is_route) whole) in
+    (All-get_or (IsRoute table.stops) table.routes row.r row.route (slice_get_within table.routes row.r row.route row.is_route) whole) in
     omega (arith, arrives_before table.stops row.route ride.alight row.p route_whole, ap (λ (v : Call). v.arr) off.call_is, leaves.second_is)
 
 pub stands_more : (q : Query) (k stops base : ℕ) (slots slots' : List Step) (ready ready' : Ready) (found found' : Found) → Agrees slots slots' base
@@ -53,19 +53,20 @@ best_now : (q : Query) (table : Table) (k stops base : ℕ) (slots slots' : List
 best_now q table k stops base slots slots' ready ready' found found' is whole was goes covers = record {
   sound = λ lt. record { before = k; few = omega arith; ends = (goes.found_sound was.ready_sound was.found_sound).best lt };
   least = λ rides arrive few listed.
-    let e = ending q rides arrive listed in
-    let known = (goes.left_least was.ready_least).each e.rides e.ride e.stop e.second (omega (arith, e.count, few)) e.leaves in
-    let in_time = arrival_in_time q table e.rides e.ride e.stop e.second is whole e.leaves in
-    elim (cases_lt e.second (slice_index found'.left e.stop.0)) [
-      | inl later ↦ omega (arith, known, later, e.sum_is)
-      | inr early ↦ omega (arith, covers.each e.stop e.walk (omega (arith, early, in_time)) e.entry, early, e.sum_is)
-    ];
+      let e = ending q rides arrive listed in
+      let known = (goes.left_least was.ready_least).each e.rides e.ride e.stop e.second (omega (arith, e.count, few)) e.leaves in
+      let in_time = arrival_in_time q table e.rides e.ride e.stop e.second is whole e.leaves in
+      elim (cases_lt e.second (slice_index found'.left e.stop.0)) [
+        | inl later ↦ omega (arith, known, later, e.sum_is)
+        | inr early ↦ omega (arith, covers.each e.stop e.walk (omega (arith, early, in_time)) e.entry, early, e.sum_is)
+      ];
 }
 
 best_of_widens : (q : Query) (slots slots' : List Step) (bound bound' k : ℕ) (b : Best) → Agrees slots slots' bound → bound ≤ bound' → IsBestOf q slots bound k b → IsBestOf q slots' bound' k b
 best_of_widens q slots slots' bound bound' k b same more was = record {
   sound = λ lt. let e = was.sound lt in record {
-    before = e.before; few = e.few;
+    before = e.before;
+    few = e.few;
     ends = best_widens q slots slots' bound bound' e.before e.before b.second b.step same more (omega arith) e.ends;
   };
   least = was.least;
@@ -84,16 +85,16 @@ bests_more q table k stops base slots slots' ready ready' found found' bests is 
     let b_is = get_or_from_slice_get (slice_set bests (k + 1) now) j b b at in
     elim (cases_lt j (k + 1)) [
       | inl lt ↦
-        let other : j ≢ k + 1 = omega arith in
-        let within : j < length bests = omega (arith, in_set, length-set bests (k + 1) now) in
-        let old : slice_get bests j ≡ Some b = slice_get-get_or bests j b within ∙ ap Some (sym (get_or-set_other bests (k + 1) j now b other) ∙ b_is) in
-        best_of_widens q slots slots' base (base + stops) j b same (omega arith) (before j b (omega arith) old)
+          let other : j ≢ k + 1 = omega arith in
+          let within : j < length bests = omega (arith, in_set, length-set bests (k + 1) now) in
+          let old : slice_get bests j ≡ Some b = slice_get-get_or bests j b within ∙ ap Some (sym (get_or-set_other bests (k + 1) j now b other) ∙ b_is) in
+          best_of_widens q slots slots' base (base + stops) j b same (omega arith) (before j b (omega arith) old)
       | inr ge ↦
-        let e : k + 1 ≡ j = omega arith in
-        let now_is : now ≡ b = sym (get_or-set_same bests (k + 1) now b room) ∙ subst (λ n. get_or (slice_set bests (k + 1) now) n b ≡ b) (sym e) b_is in
-        subst (λ n. IsBestOf q slots' (base + stops) n b) e
+          let e : k + 1 ≡ j = omega arith in
+          let now_is : now ≡ b = sym (get_or-set_same bests (k + 1) now b room) ∙ subst (λ n. get_or (slice_set bests (k + 1) now) n b ≡ b) (sym e) b_is in
+          subst (λ n. IsBestOf q slots' (base + stops) n b) e
           (subst (λ v. IsBestOf q slots' (base + stops) (k + 1) v) now_is
-            (best_now q table k stops base slots slots' ready ready' found found' is whole was goes covers))
+          (best_now q table k stops base slots slots' ready ready' found found' is whole was goes covers))
     ]
 
 -- an arrival is below the greatest number
@@ -105,6 +106,6 @@ arrives_in_range q table is whole bound rides arrive listed =
     let in_time = arrival_in_time q table e.rides e.ride e.stop e.second is whole e.leaves in
     let at : ℕ = e.stop.0 in
     let walk : e.walk ≤ 9000000000000000000 =
-      subst (λ (o : Option ℕ). IfSome o (λ m. m ≤ 9000000000000000000)) (get_or_from_slice_get q.last at (Some e.walk) None e.entry)
-        (All-get_or (λ (o : Option ℕ). IfSome o (λ m. m ≤ 9000000000000000000)) q.last at None (slice_get_within q.last at (Some e.walk) e.entry) bound) in
+    subst (λ (o : Option ℕ). IfSome o (λ m. m ≤ 9000000000000000000)) (get_or_from_slice_get q.last at (Some e.walk) None e.entry)
+    (All-get_or (λ (o : Option ℕ). IfSome o (λ m. m ≤ 9000000000000000000)) q.last at None (slice_get_within q.last at (Some e.walk) e.entry) bound) in
     omega (arith, in_time, walk, e.sum_is)

@@ -1,18 +1,16 @@
 -- The scan of a route.
-use Rattle.std.proofs.Common.{◌≡◌, ℕ, ◌+◌, ◌-◌, ◌^◌, ◌<◌, ◌≤◌, ◌⊎◌, inl, inr, min, List, length, subst, sym, refl, ap, ◌∙◌, arith, Option, Some, Bool, true, false}
+use Rattle.std.proofs.Common.{◌≡◌, ℕ, ◌+◌, ◌<◌, ◌≤◌, ◌⊎◌, inl, inr, min, List, length, subst, sym, refl, ◌∙◌, arith, Some, Bool, true, false}
 use Rattle.std.proofs.lemmas.Bool.{false≢true, cases_lt}
 use Rattle.std.proofs.lemmas.Option.{slice_get_within}
 use Rattle.std.specs.Prelude.{slice_get, slice_index, IsTrue}
 use Rattle.move_model.specs.declared.network.TripNo.{TripNo}
-use Rattle.move_model.specs.declared.network.StopNo.{StopNo}
-use Rattle.move_model.specs.Journey.{IsRide}
 use Rattle.route_split.specs.declared.place.Place.{Place}
 use Rattle.route_split.specs.Route.{Route, IsRoute, arrivals_of, departures_of}
 use Rattle.route_split.specs.Calls.{IsRouteOf, call_of}
 use Rattle.raptor_rounds.specs.declared.labels.Found.{Found}
 use Rattle.raptor_rounds.specs.declared.scan.Hold.{Hold}
-use Rattle.raptor_rounds.specs.Ways.{Leaves, HasChain}
-use Rattle.raptor_rounds.specs.Labels.{Scope, ReadyBy, LeftBy, AllReady, IsFound, Covers, Scanned, Falls, IsHeld, step_of}
+use Rattle.raptor_rounds.specs.Ways.{HasChain}
+use Rattle.raptor_rounds.specs.Labels.{Scope, LeftBy, AllReady, Scanned, Falls, IsHeld, step_of}
 use Rattle.raptor_rounds.proofs.TimesLemmas.{stop_within}
 
 -- each row that could have been boarded before the call is at or after the held one
@@ -78,7 +76,7 @@ falls_on a b c ab bc = record {
 -- a call more, with a best arrival that only fell
 pub caught_more : (route : Route) (buffer : ℕ) (ready : List ℕ) (start call row row' best best' : ℕ) → CaughtBefore route buffer ready start call row best → row' ≤ row → best' ≤ best
     → ((on : Place) (p : ℕ) → slice_get route.places call ≡ Some on → IsTrue on.board → p < length route.trips
-      → slice_index ready on.stop.0 < best' → slice_index ready on.stop.0 + buffer ≤ slice_index (departures_of route call) p → row' ≤ p)
+    → slice_index ready on.stop.0 < best' → slice_index ready on.stop.0 + buffer ≤ slice_index (departures_of route call) p → row' ≤ p)
     → CaughtBefore route buffer ready start (call + 1) row' best'
 caught_more route buffer ready start call row row' best best' before lower falls here i p on from to at may within sooner early =
     elim (cases_lt i call) [
@@ -91,7 +89,7 @@ caught_more route buffer ready start call row row' best best' before lower falls
 pub scanned_more : (stops : ℕ) (route : Route) (buffer : ℕ) (ready : List ℕ) (start call row : ℕ) (f g : Found) → IsRoute stops route
     → CaughtBefore route buffer ready start call row f.best → ScannedBefore route buffer ready start call f → Falls f g
     → ((off : Place) → slice_get route.places call ≡ Some off → IsTrue off.alight → row < length route.trips
-      → min (slice_index g.left off.stop.0) g.best ≤ slice_index (arrivals_of route call) row)
+    → min (slice_index g.left off.stop.0) g.best ≤ slice_index (arrivals_of route call) row)
     → ((k : ℕ) → k < length route.places → length (arrivals_of route k) ≡ length route.trips)
     → ScannedBefore route buffer ready start (call + 1) g
 scanned_more stops route buffer ready start call row f g whole caught before falls known as_long i j p on off from forward to at_on at_off may_on may_off within sooner early =
@@ -119,17 +117,23 @@ pub scanned_all : (route : Route) (buffer : ℕ) (ready : List ℕ) (start call 
     → ScannedBefore route buffer ready start call f → (i : ℕ) → start ≤ i → Scanned route buffer ready f.left f.best i
 scanned_all route buffer ready start call f past before i from = record {
   each = λ j p on off forward at_on at_off may_on may_off within sooner early.
-    before i j p on off from forward (omega (arith, slice_get_within route.places j off at_off)) at_on at_off may_on may_off within sooner early;
+      before i j p on off from forward (omega (arith, slice_get_within route.places j off at_off)) at_on at_off may_on may_off within sooner early;
 }
 
 pub scanned_falls : (route : Route) (buffer : ℕ) (ready : List ℕ) (i : ℕ) (f g : Found) → Falls f g
     → Scanned route buffer ready f.left f.best i → Scanned route buffer ready g.left g.best i
 scanned_falls route buffer ready i f g falls was = record {
   each = λ j p on off forward at_on at_off may_on may_off within sooner early.
-    omega (arith, was.each j p on off forward at_on at_off may_on may_off within (omega (arith, sooner, falls.best)) early, falls.left off.stop.0, falls.best);
+      omega (arith, was.each j p on off forward at_on at_off may_on may_off within (omega (arith, sooner, falls.best)) early, falls.left off.stop.0, falls.best);
 }
 
 pub falls_none : (f : Found) → Falls f f
 falls_none f = record {
-  stops = refl; steps = refl; marks = refl; left = λ x. omega arith; best = omega arith; fresh_stays = λ x e. e; others_stay = λ x e. refl;
+  stops = refl;
+  steps = refl;
+  marks = refl;
+  left = λ x. omega arith;
+  best = omega arith;
+  fresh_stays = λ x e. e;
+  others_stay = λ x e. refl;
 }

@@ -1,7 +1,7 @@
 -- Sparse sets.
 use Rattle.std.proofs.Common.{◌≡◌, ◌≢◌, ℕ, ◌+◌, ◌<◌, ◌≤◌, ◌↔◌, inl, inr, List, [], ◌∷◌, length, take, map, set, get_or, nat_lt, subst, sym, refl, ap, ◌∙◌, arith, Bool, true, false, get_or-set_same, get_or-set_other}
 use Rattle.std.specs.Prelude.{Contains, replicate, slice_index, slice_index_or}
-use Rattle.std.proofs.lemmas.List.{get_or-map, length-map, length-set, length-take-le, get_or-take, get_or_past, ext_get_or, get_or_default}
+use Rattle.std.proofs.lemmas.List.{get_or-map, length-map, length-set, length-take-le, get_or-take, get_or_past, ext_get_or}
 use Rattle.std.proofs.lemmas.Grind.{get_or_default_zero}
 use Rattle.std.proofs.lemmas.Bool.{cases_lt, cases_eq, false≢true, lt-ltb, le-ltb, ltb-true}
 use Rattle.raptor_rounds.specs.Sparse.{IsArranged}
@@ -17,30 +17,32 @@ shown places count x lt = get_or-map (λ place. nat_lt place count) places x 0 f
 
 pub true_within : (xs : List Bool) (x : ℕ) → slice_index_or xs x false ≡ true → x < length xs
 true_within xs x is = elim (cases_lt x (length xs)) [
-    | inl lt ↦ lt
-    | inr ge ↦ absurd (false≢true (sym (get_or_past xs x false ge) ∙ is))
+  | inl lt ↦ lt
+  | inr ge ↦ absurd (false≢true (sym (get_or_past xs x false ge) ∙ is))
 ]
 
 pub numbers_in : (items places : List ℕ) (count : ℕ) → IsArranged items places → count ≤ length places
     → (x : ℕ) → Contains (take count items) x ↔ (slice_index_or (map (λ place. nat_lt place count) places) x false ≡ true)
 numbers_in items places count is few x = (there, back)
   where
-  there : Contains (take count items) x → slice_index_or (map (λ place. nat_lt place count) places) x false ≡ true
-  there (i, lt, at) =
-      let low : i < count = omega (arith, lt, length-take-le count items (omega (arith, is.one_each, few))) in
-      let item : slice_index items i ≡ x = sym (get_or_default_zero items i x (omega (arith, low, few, is.one_each))) ∙ sym (get_or-take count items i x low) ∙ at in
-      let place : slice_index places x ≡ i = ap (slice_index places) (sym item) ∙ is.place_of i (omega (arith, low, few)) in
-      let within : x < length places = subst (λ y. y < length places) item (is.item_low i (omega (arith, low, few))) in
-      shown places count x within ∙ ap (λ p. nat_lt p count) place ∙ lt-ltb i count low
+    there : Contains (take count items) x → slice_index_or (map (λ place. nat_lt place count) places) x false ≡ true
+    there (i, lt, at) =
+        let low : i < count = omega (arith, lt, length-take-le count items (omega (arith, is.one_each, few))) in
+        let item : slice_index items i ≡ x = sym (get_or_default_zero items i x (omega (arith, low, few, is.one_each))) ∙ sym (get_or-take count items i x low) ∙ at in
+        let place : slice_index places x ≡ i = ap (slice_index places) (sym item) ∙ is.place_of i (omega (arith, low, few)) in
+        let within : x < length places = subst (λ y. y < length places) item (is.item_low i (omega (arith, low, few))) in
+        shown places count x within ∙ ap (λ p. nat_lt p count) place ∙ lt-ltb i count low
 
-  back : slice_index_or (map (λ place. nat_lt place count) places) x false ≡ true → Contains (take count items) x
-  back e =
-      let within : x < length places = omega (arith, true_within (map (λ place. nat_lt place count) places) x e, length-map places (λ place. nat_lt place count)) in
-      let i : ℕ = slice_index places x in
-      let low : i < count = ltb-true i count (sym (shown places count x within) ∙ e) in
-      let long : i < length items = omega (arith, low, few, is.one_each) in
-      (i, omega (arith, low, length-take-le count items (omega (arith, is.one_each, few))),
-        get_or-take count items i x low ∙ get_or_default_zero items i x long ∙ is.item_at x within)
+    back : slice_index_or (map (λ place. nat_lt place count) places) x false ≡ true → Contains (take count items) x
+    back e =
+        let within : x < length places = omega (arith, true_within (map (λ place. nat_lt place count) places) x e, length-map places (λ place. nat_lt place count)) in
+        let i : ℕ = slice_index places x in
+        let low : i < count = ltb-true i count (sym (shown places count x within) ∙ e) in
+        let long : i < length items = omega (arith, low, few, is.one_each) in (
+          i,
+          omega (arith, low, length-take-le count items (omega (arith, is.one_each, few))),
+          get_or-take count items i x low ∙ get_or_default_zero items i x long ∙ is.item_at x within,
+        )
 
 -- the numbers that are lent differ, and are below the bound
 pub numbers_once : (items places : List ℕ) (count : ℕ) → IsArranged items places → count ≤ length places
@@ -100,50 +102,50 @@ module _ (items places : List ℕ) (x count p o : ℕ) (is : IsArranged items pl
 
   place_of_now : (i : ℕ) → i < length places → slice_index places' (slice_index items' i) ≡ i
   place_of_now i lt = elim (cases_eq i p) [
-      | inl at_p ↦ ap (λ k. slice_index places' (slice_index items' k)) at_p ∙ ap (slice_index places') now_p ∙ now_o ∙ sym at_p
-      | inr off_p ↦ elim (cases_eq i count) [
-        | inl at_c ↦
+    | inl at_p ↦ ap (λ k. slice_index places' (slice_index items' k)) at_p ∙ ap (slice_index places') now_p ∙ now_o ∙ sym at_p
+    | inr off_p ↦ elim (cases_eq i count) [
+      | inl at_c ↦
           let differ : count ≢ p = λ e. off_p (at_c ∙ e) in
           let x_off : x ≢ o = λ e. differ (sym (p_is ∙ ap (slice_index places) e ∙ places_o)) in
           ap (λ k. slice_index places' (slice_index items' k)) at_c ∙ ap (slice_index places') (now_count differ) ∙ now_x x_off ∙ sym at_c
-        | inr off_c ↦
+      | inr off_c ↦
           let y_o : slice_index items i ≢ o = λ e. off_c (sym (is.place_of i lt) ∙ ap (slice_index places) e ∙ places_o) in
           let y_x : slice_index items i ≢ x = λ e. off_p (sym (is.place_of i lt) ∙ ap (slice_index places) e ∙ sym p_is) in
           ap (slice_index places') (same_item i off_p off_c) ∙ same_place (slice_index items i) y_o y_x ∙ is.place_of i lt
-      ]
+    ]
   ]
 
   item_at_now : (y : ℕ) → y < length places → slice_index items' (slice_index places' y) ≡ y
   item_at_now y lt = elim (cases_eq y o) [
-      | inl at_o ↦ ap (λ k. slice_index items' (slice_index places' k)) at_o ∙ ap (slice_index items') now_o ∙ now_p ∙ sym at_o
-      | inr off_o ↦ elim (cases_eq y x) [
-        | inl at_x ↦
+    | inl at_o ↦ ap (λ k. slice_index items' (slice_index places' k)) at_o ∙ ap (slice_index items') now_o ∙ now_p ∙ sym at_o
+    | inr off_o ↦ elim (cases_eq y x) [
+      | inl at_x ↦
           let x_off : x ≢ o = λ e. off_o (at_x ∙ e) in
           let differ : count ≢ p = λ e. x_off (sym items_p ∙ ap (slice_index items) (sym e) ∙ sym o_is) in
           ap (λ k. slice_index items' (slice_index places' k)) at_x ∙ ap (slice_index items') (now_x x_off) ∙ now_count differ ∙ sym at_x
-        | inr off_x ↦
+      | inr off_x ↦
           let i_p : slice_index places y ≢ p = λ e. off_x (sym (is.item_at y lt) ∙ ap (slice_index items) e ∙ items_p) in
           let i_c : slice_index places y ≢ count = λ e. off_o (sym (is.item_at y lt) ∙ ap (slice_index items) e ∙ sym o_is) in
           ap (slice_index items') (same_place y off_o off_x) ∙ same_item (slice_index places y) i_p i_c ∙ is.item_at y lt
-      ]
+    ]
   ]
 
   item_low_now : (i : ℕ) → i < length places → slice_index items' i < length places
   item_low_now i lt = elim (cases_eq i p) [
-      | inl at_p ↦ subst (λ y. y < length places) (sym (ap (slice_index items') at_p ∙ now_p)) other_in
-      | inr off_p ↦ elim (cases_eq i count) [
-        | inl at_c ↦ subst (λ y. y < length places) (sym (ap (slice_index items') at_c ∙ now_count (λ e. off_p (at_c ∙ e)))) x_in
-        | inr off_c ↦ subst (λ y. y < length places) (sym (same_item i off_p off_c)) (is.item_low i lt)
-      ]
+    | inl at_p ↦ subst (λ y. y < length places) (sym (ap (slice_index items') at_p ∙ now_p)) other_in
+    | inr off_p ↦ elim (cases_eq i count) [
+      | inl at_c ↦ subst (λ y. y < length places) (sym (ap (slice_index items') at_c ∙ now_count (λ e. off_p (at_c ∙ e)))) x_in
+      | inr off_c ↦ subst (λ y. y < length places) (sym (same_item i off_p off_c)) (is.item_low i lt)
+    ]
   ]
 
   place_low_now : (y : ℕ) → y < length places → slice_index places' y < length places
   place_low_now y lt = elim (cases_eq y o) [
-      | inl at_o ↦ subst (λ i. i < length places) (sym (ap (slice_index places') at_o ∙ now_o)) place_in
-      | inr off_o ↦ elim (cases_eq y x) [
-        | inl at_x ↦ subst (λ i. i < length places) (sym (ap (slice_index places') at_x ∙ now_x (λ e. off_o (at_x ∙ e)))) count_in
-        | inr off_x ↦ subst (λ i. i < length places) (sym (same_place y off_o off_x)) (is.place_low y lt)
-      ]
+    | inl at_o ↦ subst (λ i. i < length places) (sym (ap (slice_index places') at_o ∙ now_o)) place_in
+    | inr off_o ↦ elim (cases_eq y x) [
+      | inl at_x ↦ subst (λ i. i < length places) (sym (ap (slice_index places') at_x ∙ now_x (λ e. off_o (at_x ∙ e)))) count_in
+      | inr off_x ↦ subst (λ i. i < length places) (sym (same_place y off_o off_x)) (is.place_low y lt)
+    ]
   ]
 
   places_long : length places' ≡ length places
@@ -163,40 +165,40 @@ module _ (items places : List ℕ) (x count p o : ℕ) (is : IsArranged items pl
 
   place_of_x : slice_index places' x ≡ count
   place_of_x = elim (cases_eq x o) [
-      | inl same ↦ ap (slice_index places') same ∙ now_o ∙ p_is ∙ ap (slice_index places) same ∙ places_o
-      | inr differ ↦ now_x differ
+    | inl same ↦ ap (slice_index places') same ∙ now_o ∙ p_is ∙ ap (slice_index places) same ∙ places_o
+    | inr differ ↦ now_x differ
   ]
 
   -- a place before the next is before this one, but where it is this one
   next_or_same : (i : ℕ) → i ≢ count → nat_lt i (count + 1) ≡ nat_lt i count
   next_or_same i off = elim (cases_lt i count) [
-      | inl lt ↦ lt-ltb i (count + 1) (omega arith) ∙ sym (lt-ltb i count lt)
-      | inr ge ↦ le-ltb i (count + 1) (above i off ge) ∙ sym (le-ltb i count ge)
+    | inl lt ↦ lt-ltb i (count + 1) (omega arith) ∙ sym (lt-ltb i count lt)
+    | inr ge ↦ le-ltb i (count + 1) (above i off ge) ∙ sym (le-ltb i count ge)
   ]
     where
-    above : (i : ℕ) → i ≢ count → count ≤ i → count + 1 ≤ i
-    above i off ge = elim (cases_lt count i) [
+      above : (i : ℕ) → i ≢ count → count ≤ i → count + 1 ≤ i
+      above i off ge = elim (cases_lt count i) [
         | inl lt ↦ omega arith
         | inr le ↦ let same : i ≡ count = omega arith in absurd (off same)
-    ]
+      ]
 
   tells : (y : ℕ) → y < length places → nat_lt (slice_index places' y) (count + 1) ≡ get_or (set (map (λ place. nat_lt place count) places) x true) y false
   tells y lt = elim (cases_eq y x) [
-      | inl at_x ↦
+    | inl at_x ↦
         subst (λ k. nat_lt (slice_index places' k) (count + 1) ≡ get_or (set (map (λ place. nat_lt place count) places) x true) k false) (sym at_x)
         (ap (λ i. nat_lt i (count + 1)) place_of_x ∙ lt-ltb count (count + 1) (omega arith)
-          ∙ sym (get_or-set_same (map (λ place. nat_lt place count) places) x true false (omega (arith, x_in, length-map places (λ place. nat_lt place count)))))
-      | inr off_x ↦ elim (cases_eq y o) [
-        | inl at_o ↦
+        ∙ sym (get_or-set_same (map (λ place. nat_lt place count) places) x true false (omega (arith, x_in, length-map places (λ place. nat_lt place count)))))
+    | inr off_x ↦ elim (cases_eq y o) [
+      | inl at_o ↦
           let differ : p ≢ count = λ e. off_x (at_o ∙ o_is ∙ ap (slice_index items) (sym e) ∙ items_p) in
           ap (λ k. nat_lt (slice_index places' k) (count + 1)) at_o ∙ ap (λ i. nat_lt i (count + 1)) now_o ∙ next_or_same p differ
           ∙ le-ltb p count out ∙ sym (le-ltb count count (omega arith)) ∙ ap (λ i. nat_lt i count) (sym (ap (slice_index places) at_o ∙ places_o))
           ∙ sym (shown places count y lt) ∙ sym (get_or-set_other (map (λ place. nat_lt place count) places) x y true false off_x)
-        | inr off_o ↦
+      | inr off_o ↦
           let differ : slice_index places y ≢ count = λ e. off_o (sym (is.item_at y lt) ∙ ap (slice_index items) e ∙ sym o_is) in
           ap (λ i. nat_lt i (count + 1)) (same_place y off_o off_x) ∙ next_or_same (slice_index places y) differ
           ∙ sym (shown places count y lt) ∙ sym (get_or-set_other (map (λ place. nat_lt place count) places) x y true false off_x)
-      ]
+    ]
   ]
 
   pub shown_now : map (λ place. nat_lt place (count + 1)) places' ≡ set (map (λ place. nat_lt place count) places) x true

@@ -1,12 +1,12 @@
 -- The first marked calls of routes.
-use Rattle.std.proofs.Common.{◌≡◌, ℕ, ◌+◌, ◌<◌, ◌≤◌, inl, inr, List, length, subst, sym, refl, ap, ◌∙◌, arith, Bool, true, false}
-use Rattle.std.specs.Prelude.{Contains, slice_get, slice_index, slice_index_or}
+use Rattle.std.proofs.Common.{◌≡◌, ℕ, ◌<◌, inl, inr, List, length, sym, ◌∙◌, Bool, true, false}
+use Rattle.std.specs.Prelude.{slice_index_or}
 use Rattle.std.proofs.lemmas.List.{get_or_default, get_or_past}
 use Rattle.std.proofs.lemmas.Option.{slice_get_within}
 use Rattle.std.proofs.lemmas.Bool.{cases_lt, false≢true}
 use Rattle.route_split.specs.declared.place.RouteCall.{RouteCall}
 use Rattle.route_split.specs.Route.{Route}
-use Rattle.route_split.specs.Table.{CallsAt, LendsCalls}
+use Rattle.route_split.specs.Table.{LendsCalls}
 
 pub calls_within : (routes : List Route) (stop : ℕ) (calls : List RouteCall) → LendsCalls routes stop calls → (k : ℕ) (d : RouteCall) → k < length calls
     → (slice_index_or calls k d).route < length routes
@@ -17,6 +17,6 @@ calls_within routes stop calls lends k d here =
 
 pub true_within : (xs : List Bool) (x : ℕ) → slice_index_or xs x false ≡ true → x < length xs
 true_within xs x is = elim (cases_lt x (length xs)) [
-    | inl lt ↦ lt
-    | inr ge ↦ absurd (false≢true (sym (get_or_past xs x false ge) ∙ is))
+  | inl lt ↦ lt
+  | inr ge ↦ absurd (false≢true (sym (get_or_past xs x false ge) ∙ is))
 ]

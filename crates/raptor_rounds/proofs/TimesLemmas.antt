@@ -1,5 +1,5 @@
 -- The seconds of a route.
-use Rattle.std.proofs.Common.{◌≡◌, ℕ, ◌+◌, ◌-◌, ◌*◌, ◌^◌, ◌<◌, ◌≤◌, ◌⊎◌, inl, inr, List, length, get_or, take, drop, subst, sym, arith, Some}
+use Rattle.std.proofs.Common.{◌≡◌, ℕ, ◌+◌, ◌-◌, ◌*◌, ◌^◌, ◌<◌, ◌≤◌, inl, inr, List, length, get_or, drop, subst, sym, arith, Some}
 use Rattle.std.specs.Prelude.{All, slice_index, slice_get}
 use Rattle.std.proofs.lemmas.List.{get_or_past, length-take-le}
 use Rattle.std.proofs.Common.{length-drop}
@@ -12,8 +12,8 @@ use Rattle.route_split.specs.Route.{Route, IsRoute, arrivals_of, departures_of}
 
 below : (xs : List ℕ) (p b : ℕ) → 0 < b → All (λ x. x < b) xs → get_or xs p 0 < b
 below xs p b pos all = elim (cases_lt p (length xs)) [
-    | inl lt ↦ All-get_or (λ x. x < b) xs p 0 lt all
-    | inr ge ↦ subst (λ x. x < b) (sym (get_or_past xs p 0 ge)) pos
+  | inl lt ↦ All-get_or (λ x. x < b) xs p 0 lt all
+  | inr ge ↦ subst (λ x. x < b) (sym (get_or_past xs p 0 ge)) pos
 ]
 
 pub departs_before : (stops : ℕ) (route : Route) (k p : ℕ) → IsRoute stops route → slice_index (departures_of route k) p < 2 ^ 32 - 1
@@ -39,8 +39,8 @@ arrivals_length stops route is k within =
     let room : at + t ≤ length route.seconds = omega (arith, mul-le-mul_left t (within_of k (length route.places) within), is.full) in
     omega (arith, length-take-le (at + t - at) (drop at route.seconds) (simp length-drop (omega arith)))
   where
-  within_of : (k n : ℕ) → k < n → 2 * k + 1 ≤ 2 * n
-  within_of k n h = omega arith
+    within_of : (k n : ℕ) → k < n → 2 * k + 1 ≤ 2 * n
+    within_of k n h = omega arith
 
 pub few_places : (stops : ℕ) (routes : List Route) → All (IsRoute stops) routes → (r : ℕ) (route : Route) → slice_get routes r ≡ Some route → length route.places < 2 ^ 32
 few_places stops routes whole r route at =

@@ -1,22 +1,19 @@
 -- From the kept numbers to the answers.
-use Rattle.std.proofs.Common.{◌≡◌, ◌≢◌, ℕ, zero, suc, ◌+◌, ◌-◌, ◌*◌, ◌^◌, ◌<◌, ◌≤◌, inl, inr, List, [], ◌∷◌, ◌++◌, length, take, drop, map, get_or, nat_lt, subst, sym, refl, ap, ◌∙◌, arith, Bool, true, false, eqb, cond, Option, Some, None}
+use Rattle.std.proofs.Common.{◌≡◌, ℕ, zero, suc, ◌+◌, ◌-◌, ◌^◌, ◌<◌, ◌≤◌, List, [], ◌∷◌, ◌++◌, length, take, drop, map, get_or, nat_lt, subst, sym, refl, ap, ◌∙◌, arith, Bool, true, false, cond, Option, Some, None}
 use Rattle.std.specs.Prelude.{slice_get, IfSome, replicate}
 use Rattle.std.specs.Option.{option_map}
 use Rattle.std.proofs.Math.Seq.{take-append_seam}
 use Rattle.std.proofs.lemmas.List.{length-map, length-take-le, get_or-take, get_or-map}
-use Rattle.std.proofs.lemmas.Option.{slice_get_within, slice_get-map, slice_get-get_or, get_or_from_slice_get, same_Some}
+use Rattle.std.proofs.lemmas.Option.{slice_get-get_or}
 use Rattle.std.proofs.lemmas.Bool.{le-ltb}
 use Rattle.std.proofs.lemmas.Bool.Decides.{nat_tests}
-use Rattle.move_model.specs.declared.network.Network.{Network}
 use Rattle.move_model.specs.declared.journey.Ride.{Ride}
-use Rattle.move_model.specs.declared.journey.Shortcut.{Shortcut}
 use Rattle.move_model.specs.Listed.{IsListed, HasBest}
-use Rattle.move_model.specs.Optional.{optional_of}
 use Rattle.raptor_rounds.specs.declared.labels.Step.{Step}
 use Rattle.raptor_rounds.specs.declared.labels.Best.{Best}
 use Rattle.raptor_rounds.specs.Ways.{Query, HasChain}
 use Rattle.raptor_rounds.specs.Ways.HasChain.{none, link}
-use Rattle.raptor_rounds.specs.Least.{IsBestOf, Ends}
+use Rattle.raptor_rounds.specs.Least.{IsBestOf}
 use Rattle.raptor_rounds.specs.Answers.{Arrival, Kept, before, turned_onto, arrival_of, answer_of, IsAnswer}
 use Rattle.raptor_rounds.proofs.LawLemmas.{listed_of, length-turned}
 
@@ -84,8 +81,8 @@ answers_are q slots bound limit bests small room range best k few =
     let none : Best = record { second = 0; step = record { ride = record { trip = record { 0 = 0 }; board = 0; alight = 0 }; by = 0 } } in
     let b : Best = get_or bests k none in
     let at : get_or (map (answer_of slots) (take (limit + 1) bests)) k None ≡ answer_of slots b =
-      get_or-map (answer_of slots) (take (limit + 1) bests) k none None (omega (arith, few, length-take-le (limit + 1) bests (omega arith)))
-      ∙ ap (answer_of slots) (get_or-take (limit + 1) bests k none (omega arith)) in
+    get_or-map (answer_of slots) (take (limit + 1) bests) k none None (omega (arith, few, length-take-le (limit + 1) bests (omega arith)))
+    ∙ ap (answer_of slots) (get_or-take (limit + 1) bests k none (omega arith)) in
     subst (IsAnswer q.network q.first q.last q.list q.depart k) (sym at)
     (is_answer q slots bound k b (omega arith) (best k b few (slice_get-get_or bests k none (omega arith))) range)
 
@@ -94,8 +91,8 @@ pub none_first : (slots : List Step) (limit : ℕ) (b : Best) → 2 ^ 64 - 1 ≤
 none_first slots limit b big =
     ap (λ n. map (answer_of slots) (take 1 (replicate n b))) (next limit) ∙ ap (λ t. cond t (Some (arrival_of slots b)) None ∷ []) (le-ltb b.second (2 ^ 64 - 1) big)
   where
-  next : (n : ℕ) → n + 1 ≡ suc n
-  next n = omega arith
+    next : (n : ℕ) → n + 1 ≡ suc n
+    next n = omega arith
 
 -- a slice that is put back whole
 pub put_back : {X : Type 0} (len : ℕ) (xs ys : List X) → length xs ≡ len → take len (xs ++ drop (length xs) ys) ≡ xs

@@ -11,7 +11,7 @@
 --     IsHeld route .. hold          the row departs in time from where the passenger is ready
 --     AreSpans list n spans         each of the first n entries of a list stands in the span of its stop
 --     Cleared old new, Unmarked old new    the same labels or seconds, none of them marked
-use Rattle.std.specs.Prelude.{◌≡◌, ℕ, ◌+◌, ◌-◌, ◌^◌, ◌<◌, ◌≤◌, min, IsTrue, Bool, true, false, List, length, slice_get, slice_index, slice_index_or, Option, Some, vec_len}
+use Rattle.std.specs.Prelude.{◌≡◌, ℕ, ◌+◌, ◌-◌, ◌^◌, ◌<◌, ◌≤◌, min, IsTrue, true, false, List, length, slice_get, slice_index, slice_index_or, Option, Some, vec_len}
 use Rattle.move_model.specs.declared.network.StopNo.{StopNo}
 use Rattle.move_model.specs.declared.journey.Ride.{Ride}
 use Rattle.move_model.specs.declared.network.TripNo.{TripNo}

@@ -4,7 +4,7 @@
 --     Walked list seconds left best   what goes on from the labels is no earlier than where the passenger is known to be ready
 --     Closed table list ready found   nothing new comes of an unmarked stop, and transfers are done
 --     GoesOn q k ..                   what a round adds
-use Rattle.std.specs.Prelude.{◌≡◌, ℕ, suc, ◌+◌, ◌-◌, ◌^◌, ◌<◌, ◌≤◌, min, Bool, false, List, length, slice_get, slice_index, slice_index_or, Contains, Option, Some, vec_len}
+use Rattle.std.specs.Prelude.{◌≡◌, ℕ, suc, ◌+◌, ◌-◌, ◌^◌, ◌<◌, ◌≤◌, min, false, List, length, slice_get, slice_index, slice_index_or, Option, Some, vec_len}
 use Rattle.move_model.specs.Listed.{HasEntry, HasTransfer}
 use Rattle.route_split.specs.declared.place.Place.{Place}
 use Rattle.route_split.specs.Route.{Route}

@@ -3,7 +3,7 @@
 --     IsReady q rides x r            by these rides, the last first, the passenger is ready at stop x at second r
 --     Leaves q rides ride x a        by these rides and then this one the passenger leaves a ride at x at second a
 --     HasChain slots bound by rides  the steps from `by` on, below `bound`, have these rides
-use Rattle.std.specs.Prelude.{◌≡◌, ℕ, suc, ◌+◌, ◌<◌, ◌≤◌, List, [], ◌∷◌, length, slice_get, Option, Some}
+use Rattle.std.specs.Prelude.{◌≡◌, ℕ, suc, ◌+◌, ◌<◌, ◌≤◌, List, [], ◌∷◌, slice_get, Option, Some}
 use Rattle.move_model.specs.declared.network.Network.{Network}
 use Rattle.move_model.specs.declared.network.StopNo.{StopNo}
 use Rattle.move_model.specs.declared.network.Call.{Call}

@@ -107,7 +107,7 @@ pub fn go_on(list: &[Shortcut], spans: &Spans, found: &Found, base: usize, ready
         → min (slice_index ready.new.seconds x.0) found.now.best ≤ slice_index found.now.left y.0 + m }
     ensures falls { ReadyFalls ready.old ready.new }
     ensures sound { (s : Scope) → ((y x : StopNo) (m : ℕ) → slice_index_or found.now.fresh y.0 false ≡ true → HasTransfer list.now y x m
-            → slice_index found.now.left y.0 + m < 2 ^ 32 - 1 → ReadyBy s x (slice_index found.now.left y.0 + m) (base + y.0 + 1))
+        → slice_index found.now.left y.0 + m < 2 ^ 32 - 1 → ReadyBy s x (slice_index found.now.left y.0 + m) (base + y.0 + 1))
         → AllReady s ready.old.seconds ready.old.by.items → AllReady s ready.new.seconds ready.new.by.items }
 {
     let stops = found.fresh.as_slice();

@@ -111,12 +111,7 @@ fn new_slots(alloc: Global, stops: u32, limit: u8) -> Result<Vec<Step>, NoMemory
 impl Rounds {
     /// Takes the memory for runs over a table with so many stops, with at most `limit` rides. Before the first run the
     /// last run counts as one with limit 0.
-    pub fn new(
-        alloc: Global,
-        table: &Timetable,
-        stops: u32,
-        limit: u8,
-    ) -> Result<Rounds, NoMemory>
+    pub fn new(alloc: Global, table: &Timetable, stops: u32, limit: u8) -> Result<Rounds, NoMemory>
         ensures { IfOk result (λ rounds. rounds ≡ record { stops = stops; routes = length table.now.routes; limit = limit; answers = None ∷ [] }) }
     {
         let ready = new_ready(alloc, stops)?;

@@ -95,7 +95,7 @@ pub fn leave_held(rows: &RouteRows, call: u32, hold: Hold, last: &WalkRow, found
     ensures covers { Covers last.now found.old → Covers last.now found.new }
     ensures sound { (s : Scope) → s.query.last ≡ last.now
         → ((off : Place) (trip : TripNo) → slice_get rows.now.places call ≡ Some off → IsTrue off.alight → slice_get rows.now.trips hold.row ≡ Some trip
-            → LeftBy s off.stop (slice_index (arrivals_of rows.now call) hold.row) (step_of hold trip call))
+        → LeftBy s off.stop (slice_index (arrivals_of rows.now call) hold.row) (step_of hold trip call))
         → IsFound s found.old → IsFound s found.new }
 {
     let place = rows.place(call);

@@ -1,4 +1,4 @@
-use Rattle.std.proofs.Common.{◌≡◌, ◌<◌, ◌≤◌, ℕ, length, slice_index, sym, ◌∙◌, arith, rules}
+use Rattle.std.proofs.Common.{arith, rules}
 use Rattle.raptor_rounds.proofs.SetLemmas.{read_is}
 use Rattle.raptor_rounds.proofs.EntriesLemmas.{place_of_entry, contains_range}
 use Rattle.raptor_rounds.proofs.entries.entries_of.Goals as goal

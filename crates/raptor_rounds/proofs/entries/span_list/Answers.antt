@@ -1,4 +1,4 @@
-use Rattle.std.proofs.Common.{◌≡◌, ◌<◌, ◌≤◌, ◌-◌, ◌+◌, ◌^◌, ℕ, length, slice_index, get_or, set, refl, ap, ◌∙◌, arith, rules}
+use Rattle.std.proofs.Common.{◌≡◌, ◌<◌, ◌+◌, length, get_or, set, refl, ap, ◌∙◌, arith, rules}
 use Rattle.std.proofs.lemmas.List.{length-set}
 use Rattle.std.proofs.lemmas.Option.{slice_get-get_or}
 use Rattle.std.specs.Prelude.{vec_len}
@@ -21,21 +21,21 @@ loop-i-preserved c =
     let in_ends : e.from.0 < length c.loop-i.spans.ends.items = omega (arith, low, was.ends, len) in
     elim c.if-get.branch [
       | then-get w ↦
-        let firsts_are : c.if-get.spans.firsts ≡ set c.loop-i.spans.firsts e.from.0 w.place_no.result = ap (λ (s : Spans). s.firsts) w.spans-is ∙ w.set.ensures in
-        let ends_are : c.if-get.spans.ends ≡ c.loop-i.spans.ends = ap (λ (s : Spans). s.ends) w.spans-is in
-        record {
-          firsts = ap length firsts_are ∙ length-set c.loop-i.spans.firsts e.from.0 w.place_no.result ∙ was.firsts;
-          ends = ap vec_len ends_are ∙ was.ends;
-          spans = spans_first c.args.list.now i e.from.0 w.place_no.result e c.loop-i.spans _ was.spans is refl (omega (arith, c.get.ensures, w.if-get.true)) in_firsts in_ends
-            w.place_no.ensures.low w.place_no.ensures.no_later firsts_are (ap (λ v. set v.items e.from.0 (i + 1)) ends_are);
-        }
+          let firsts_are : c.if-get.spans.firsts ≡ set c.loop-i.spans.firsts e.from.0 w.place_no.result = ap (λ (s : Spans). s.firsts) w.spans-is ∙ w.set.ensures in
+          let ends_are : c.if-get.spans.ends ≡ c.loop-i.spans.ends = ap (λ (s : Spans). s.ends) w.spans-is in
+          record {
+            firsts = ap length firsts_are ∙ length-set c.loop-i.spans.firsts e.from.0 w.place_no.result ∙ was.firsts;
+            ends = ap vec_len ends_are ∙ was.ends;
+            spans = spans_first c.args.list.now i e.from.0 w.place_no.result e c.loop-i.spans _ was.spans is refl (omega (arith, c.get.ensures, w.if-get.true)) in_firsts in_ends
+                w.place_no.ensures.low w.place_no.ensures.no_later firsts_are (ap (λ v. set v.items e.from.0 (i + 1)) ends_are);
+          }
       | else-get w ↦
-        let firsts_are : c.if-get.spans.firsts ≡ c.loop-i.spans.firsts = ap (λ (s : Spans). s.firsts) w.spans-is in
-        let ends_are : c.if-get.spans.ends ≡ c.loop-i.spans.ends = ap (λ (s : Spans). s.ends) w.spans-is in
-        record {
-          firsts = ap length firsts_are ∙ was.firsts;
-          ends = ap vec_len ends_are ∙ was.ends;
-          spans = spans_next c.args.list.now i e.from.0 e c.loop-i.spans _ was.spans is refl (omega (arith, c.get.ensures, w.if-get.false, c.get.type_inv)) in_ends
-            firsts_are (ap (λ v. set v.items e.from.0 (i + 1)) ends_are);
-        }
+          let firsts_are : c.if-get.spans.firsts ≡ c.loop-i.spans.firsts = ap (λ (s : Spans). s.firsts) w.spans-is in
+          let ends_are : c.if-get.spans.ends ≡ c.loop-i.spans.ends = ap (λ (s : Spans). s.ends) w.spans-is in
+          record {
+            firsts = ap length firsts_are ∙ was.firsts;
+            ends = ap vec_len ends_are ∙ was.ends;
+            spans = spans_next c.args.list.now i e.from.0 e c.loop-i.spans _ was.spans is refl (omega (arith, c.get.ensures, w.if-get.false, c.get.type_inv)) in_ends
+                firsts_are (ap (λ v. set v.items e.from.0 (i + 1)) ends_are);
+          }
     ]

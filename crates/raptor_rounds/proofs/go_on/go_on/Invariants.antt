@@ -11,6 +11,6 @@ invariant-loop-y l = record {
       → min (slice_index l.ready.seconds x.0) l.found.best ≤ slice_index l.found.left y.0 + m;
   falls : ReadyFalls l.fn.ready l.ready;
   sound : (s : Scope) → ((y x : StopNo) (m : ℕ) → slice_index_or l.found.fresh y.0 false ≡ true → HasTransfer l.list y x m
-          → slice_index l.found.left y.0 + m < 2 ^ 32 - 1 → ReadyBy s x (slice_index l.found.left y.0 + m) (l.base + y.0 + 1))
+      → slice_index l.found.left y.0 + m < 2 ^ 32 - 1 → ReadyBy s x (slice_index l.found.left y.0 + m) (l.base + y.0 + 1))
       → AllReady s l.fn.ready.seconds l.fn.ready.by.items → AllReady s l.ready.seconds l.ready.by.items;
 }

@@ -1,7 +1,6 @@
-use Rattle.std.proofs.Common.{◌≡◌, ◌<◌, ◌+◌, ℕ, inl, inr, length, refl, sym, subst, ◌∙◌, arith, add-zero}
+use Rattle.std.proofs.Common.{inl, inr, length, refl, sym, subst, ◌∙◌, arith, add-zero}
 use Rattle.std.specs.Prelude.{Contains, slice_index_or}
 use Rattle.move_model.specs.declared.network.StopNo.{StopNo}
-use Rattle.move_model.specs.declared.journey.Shortcut.{Shortcut}
 use Rattle.raptor_rounds.specs.Answers.{IsEntryWithin}
 use Rattle.raptor_rounds.specs.Labels.{ReadyBy}
 use Rattle.raptor_rounds.proofs.EntriesLemmas.{all_of_part}
@@ -18,7 +17,7 @@ returns-clause-sound c s way old =
     let from = c.args.from in
     c.walk_from.ensures.sound s
     (λ e has same lt. way e.to e.seconds
-      (inr (subst (λ (v : StopNo). Contains c.args.list.now (record { from = v; to = e.to; seconds = e.seconds })) same (c.entries_of-entries.ensures.within e has))) lt)
+    (inr (subst (λ (v : StopNo). Contains c.args.list.now (record { from = v; to = e.to; seconds = e.seconds })) same (c.entries_of-entries.ensures.within e has))) lt)
     (c.lower_ready.ensures.sound s
-      (λ lt. subst (λ r. ReadyBy s from r c.args.by) (add-zero c.args.second ∙ sym c.from.ensures) (way from 0 (inl (refl, refl)) (omega (arith, lt, c.from.ensures))))
-      old)
+    (λ lt. subst (λ r. ReadyBy s from r c.args.by) (add-zero c.args.second ∙ sym c.from.ensures) (way from 0 (inl (refl, refl)) (omega (arith, lt, c.from.ensures))))
+    old)

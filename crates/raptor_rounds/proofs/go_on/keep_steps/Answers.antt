@@ -1,5 +1,5 @@
-use Rattle.std.proofs.Common.{◌≡◌, ◌≢◌, ◌<◌, ◌+◌, ℕ, length, slice_index, get_or, set, refl, sym, ap, ◌∙◌, arith, Some, rules}
-use Rattle.std.specs.Prelude.{slice_get, vec_len}
+use Rattle.std.proofs.Common.{◌≡◌, ◌≢◌, ◌<◌, ◌+◌, ℕ, length, slice_index, set, refl, sym, ap, ◌∙◌, arith, Some, rules}
+use Rattle.std.specs.Prelude.{slice_get}
 use Rattle.std.proofs.lemmas.Option.{slice_get-get_or}
 use Rattle.raptor_rounds.proofs.WalksLemmas.{below_more, set_elsewhere, keep_more}
 use Rattle.raptor_rounds.proofs.go_on.keep_steps.Goals as goal
@@ -21,8 +21,8 @@ loop-y-preserved c =
     record {
       below = λ i lt. let other : i ≢ base + at = omega arith in set_elsewhere slots (base + at) i v other ∙ was.below i lt;
       kept = below_more 0 stops n (λ y. slice_get (set slots (base + at) v) (base + y) ≡ slice_get steps y) c.loop-y-test.true
-        (λ i y less here. keep_more slots steps base at v room is y (λ other. was.kept i y less here))
-        (keep_more slots steps base at v room is at (λ other. absurd (other refl)));
+          (λ i y less here. keep_more slots steps base at v room is y (λ other. was.kept i y less here))
+          (keep_more slots steps base at v room is at (λ other. absurd (other refl)));
     }
 
 pub returns-clause-kept : goal.returns-clause-kept

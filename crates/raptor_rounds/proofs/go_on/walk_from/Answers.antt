@@ -1,5 +1,4 @@
-use Rattle.std.proofs.Common.{◌≡◌, ◌<◌, ◌≤◌, ◌+◌, ℕ, min, length, slice_index, get_or, sym, ap, subst, ◌∙◌, arith, Some}
-use Rattle.std.specs.Prelude.{Contains}
+use Rattle.std.proofs.Common.{◌≡◌, ◌≤◌, ◌+◌, ℕ, min, slice_index, get_or, sym, ap, subst, ◌∙◌, arith, Some}
 use Rattle.std.proofs.lemmas.List.{get_or_default}
 use Rattle.std.proofs.lemmas.Option.{slice_get-get_or}
 use Rattle.move_model.specs.declared.network.StopNo.{StopNo}
@@ -22,28 +21,28 @@ loop-e-preserved c =
     let item : Shortcut = get_or entries n none in
     elim c.if-e-from.branch [
       | then-e-from w ↦
-        let now = w.lower_ready.ensures in
-        let from_same : item.from ≡ c.args.from = ap stop_no w.if-e-from.true in
-        rw w.ready-is (record {
-          known = below_more none entries n (λ e. e.from ≡ c.args.from → min (slice_index w.lower_ready.new.ready.seconds e.to.0) c.args.best ≤ c.args.second + e.seconds)
-            c.loop-e-test.true
-            (λ i e less at same. omega (arith, was.known i e less at same, now.falls.seconds e.to.0))
-            (λ same. omega (arith, now.known, w.from.ensures));
-          falls = ready_falls_on _ _ _ was.falls now.falls;
-          sound = λ s way old. now.sound s
-            (λ lt. subst (λ v. ReadyBy s item.to (v + item.seconds) c.args.by) (sym w.from.ensures)
-              (way item (n, c.loop-e-test.true, get_or_default entries n item none c.loop-e-test.true) from_same (omega (arith, lt, w.from.ensures))))
-            (was.sound s way old);
-        })
+          let now = w.lower_ready.ensures in
+          let from_same : item.from ≡ c.args.from = ap stop_no w.if-e-from.true in
+          rw w.ready-is (record {
+            known = below_more none entries n (λ e. e.from ≡ c.args.from → min (slice_index w.lower_ready.new.ready.seconds e.to.0) c.args.best ≤ c.args.second + e.seconds)
+                c.loop-e-test.true
+                (λ i e less at same. omega (arith, was.known i e less at same, now.falls.seconds e.to.0))
+                (λ same. omega (arith, now.known, w.from.ensures));
+            falls = ready_falls_on _ _ _ was.falls now.falls;
+            sound = λ s way old. now.sound s
+                (λ lt. subst (λ v. ReadyBy s item.to (v + item.seconds) c.args.by) (sym w.from.ensures)
+                (way item (n, c.loop-e-test.true, get_or_default entries n item none c.loop-e-test.true) from_same (omega (arith, lt, w.from.ensures))))
+                (was.sound s way old);
+          })
       | else-e-from w ↦
-        rw w.ready-is (record {
-          known = below_more none entries n (λ e. e.from ≡ c.args.from → min (slice_index c.loop-e.ready.seconds e.to.0) c.args.best ≤ c.args.second + e.seconds)
-            c.loop-e-test.true
-            (λ i e less at same. was.known i e less at same)
-            (λ same. absurd (w.if-e-from.false (ap (λ (v : StopNo). v.0) same)));
-          falls = was.falls;
-          sound = was.sound;
-        })
+          rw w.ready-is (record {
+            known = below_more none entries n (λ e. e.from ≡ c.args.from → min (slice_index c.loop-e.ready.seconds e.to.0) c.args.best ≤ c.args.second + e.seconds)
+                c.loop-e-test.true
+                (λ i e less at same. was.known i e less at same)
+                (λ same. absurd (w.if-e-from.false (ap (λ (v : StopNo). v.0) same)));
+            falls = was.falls;
+            sound = was.sound;
+          })
     ]
 
 pub returns-clause-known : goal.returns-clause-known

@@ -1,4 +1,4 @@
-use Rattle.std.proofs.Common.{◌≡◌, ℕ, sym, ap, ◌∙◌, arith}
+use Rattle.std.proofs.Common.{sym, ap, arith}
 use Rattle.std.specs.Prelude.{vec_len}
 use Rattle.raptor_rounds.proofs.TimesLemmas.{few_places}
 use Rattle.raptor_rounds.proofs.TurnLemmas.{stays_closed, round_goes_on}

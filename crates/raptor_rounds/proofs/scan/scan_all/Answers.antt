@@ -1,4 +1,4 @@
-use Rattle.std.proofs.Common.{◌≡◌, ◌≢◌, ◌<◌, ◌≤◌, ℕ, length, slice_index, sym, ap, ◌∙◌, arith, Some}
+use Rattle.std.proofs.Common.{◌≡◌, ◌≢◌, ◌≤◌, ℕ, slice_index, sym, ap, ◌∙◌, arith, Some}
 use Rattle.std.specs.Prelude.{slice_get}
 use Rattle.std.proofs.lemmas.Option.{slice_get_within, slice_get-get_or, get_or_from_slice_get}
 use Rattle.route_split.specs.Route.{Route}
@@ -16,19 +16,19 @@ loop-route-preserved g c =
     record {
       falls = falls_on _ _ _ was.falls now.falls;
       scanned = λ n r i route lt at is from. below_more 0 routes m
-        (λ r. (i : ℕ) (route : Route) → slice_get c.args.table.now.routes r ≡ Some route → slice_index c.args.starts.now r ≤ i
+          (λ r. (i : ℕ) (route : Route) → slice_get c.args.table.now.routes r ≡ Some route → slice_index c.args.starts.now r ≤ i
           → Scanned route c.args.table.now.buffer c.args.ready.now.seconds c.scan_at.new.found.left c.scan_at.new.found.best i)
-        c.loop-route-test.true
-        (λ n r less at i route is from. scanned_falls route _ _ i _ _ now.falls (was.scanned n r i route less at is from))
-        (λ i route is from. now.scanned route i is (omega (arith, from, c.get-start.ensures))) n r lt at i route is from;
+          c.loop-route-test.true
+          (λ n r less at i route is from. scanned_falls route _ _ i _ _ now.falls (was.scanned n r i route less at is from))
+          (λ i route is from. now.scanned route i is (omega (arith, from, c.get-start.ensures))) n r lt at i route is from;
       covers = λ h. now.covers (was.covers h);
       sound = λ s last buffer rows all old. now.sound s last buffer rows all (was.sound s last buffer rows all old);
       marks = now.marks ∙ was.marks;
       unmarked = λ n r from at.
-        let r_is : slice_index routes n ≡ r = get_or_from_slice_get routes n r 0 at in
-        let other : r ≢ slice_index routes m =
+          let r_is : slice_index routes n ≡ r = get_or_from_slice_get routes n r 0 at in
+          let other : r ≢ slice_index routes m =
           λ e. c.written-routes.ensures.once m n (omega (arith, from)) (slice_get_within routes n r at) (sym e ∙ sym r_is) in
-        now.others r other ∙ was.unmarked n r (omega (arith, from)) at;
+          now.others r other ∙ was.unmarked n r (omega (arith, from)) at;
       counted = omega (arith, was.counted, now.counted);
     }
 

@@ -1,4 +1,4 @@
-use Rattle.std.proofs.Common.{◌≡◌, ◌<◌, ◌≤◌, inl, inr, length, arith}
+use Rattle.std.proofs.Common.{inl, inr, arith}
 use Rattle.std.proofs.lemmas.Option.{slice_get_within}
 use Rattle.raptor_rounds.proofs.RidesLemmas.{falls_on, caught_more, scanned_more, held_more, scanned_all, held_leaves}
 use Rattle.raptor_rounds.proofs.TimesLemmas.{arrivals_length}
@@ -15,11 +15,11 @@ loop-call-preserved c =
       scanned = scanned_more _ route _ _ _ _ _ _ _ c.requires.whole was.caught was.scanned c.leave_held.ensures.falls c.leave_held.ensures.known (arrivals_length _ route c.requires.whole);
       covers = λ h. c.leave_held.ensures.covers (was.covers h);
       sound = λ s last buffer rows all old. c.leave_held.ensures.sound s last
-        (λ off trip at may is_trip. elim was.held [
-          | inl none ↦ absurd (omega (arith, none, slice_get_within route.trips c.loop-call.hold.row trip is_trip))
-          | inr held ↦ held_leaves s route _ _ _ c.loop-call.hold c.loop-call.call off trip buffer rows c.requires.whole all held.1 held.0 at may is_trip
-        ])
-        (was.sound s last buffer rows all old);
+          (λ off trip at may is_trip. elim was.held [
+            | inl none ↦ absurd (omega (arith, none, slice_get_within route.trips c.loop-call.hold.row trip is_trip))
+            | inr held ↦ held_leaves s route _ _ _ c.loop-call.hold c.loop-call.call off trip buffer rows c.requires.whole all held.1 held.0 at may is_trip
+          ])
+          (was.sound s last buffer rows all old);
     }
 
 pub returns-clause-scanned : goal.returns-clause-scanned

@@ -1,4 +1,4 @@
-use Rattle.std.proofs.Common.{◌≡◌, ℕ, ◌<◌, ◌≤◌, ◌⊎◌, length}
+use Rattle.std.proofs.Common.{◌≡◌, ◌<◌, ◌≤◌, ◌⊎◌, length}
 use Rattle.route_split.specs.Calls.{IsRouteOf}
 use Rattle.raptor_rounds.specs.Labels.{Scope, AllReady, IsFound, Covers, Falls, IsHeld}
 use Rattle.raptor_rounds.proofs.RidesLemmas.{CaughtBefore, ScannedBefore}

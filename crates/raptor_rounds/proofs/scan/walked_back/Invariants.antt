@@ -1,4 +1,4 @@
-use Rattle.std.proofs.Common.{◌≡◌, ◌≤◌, slice_index}
+use Rattle.std.proofs.Common.{◌≤◌, slice_index}
 use Rattle.raptor_rounds.proofs.scan.walked_back.Given as goal
 
 abbrev pub invariant-loop-row : goal.invariant-loop-row

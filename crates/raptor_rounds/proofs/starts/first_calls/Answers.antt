@@ -1,4 +1,4 @@
-use Rattle.std.proofs.Common.{◌≡◌, ◌<◌, ◌≤◌, ℕ, length, slice_index, ap, ◌∙◌, arith, Some}
+use Rattle.std.proofs.Common.{◌≤◌, ℕ, slice_index, ap, ◌∙◌, arith, Some}
 use Rattle.std.proofs.lemmas.Option.{slice_get-get_or}
 use Rattle.route_split.specs.Table.{CallsAt}
 use Rattle.raptor_rounds.proofs.StartsLemmas.{calls_within}
@@ -17,9 +17,9 @@ loop-stop-preserved c =
     let routes = c.args.table.now.routes in
     record {
       known = λ i x r k lt at calls. below_more 0 stops c.loop-stop.stop-index
-        (λ x. (r k : ℕ) → CallsAt routes x r k → slice_index c.lower_starts.new.starts r ≤ k) c.loop-stop-test.true
-        (λ i x less at r k calls. omega (arith, was.known i x r k less at calls, now.falls r))
-        (λ r k calls. now.each r k ((c.at_stop.ensures.calls r k).1 calls)) i x lt at r k calls;
+          (λ x. (r k : ℕ) → CallsAt routes x r k → slice_index c.lower_starts.new.starts r ≤ k) c.loop-stop-test.true
+          (λ i x less at r k calls. omega (arith, was.known i x r k less at calls, now.falls r))
+          (λ r k calls. now.each r k ((c.at_stop.ensures.calls r k).1 calls)) i x lt at r k calls;
       as_long = now.length ∙ was.as_long;
     }
 

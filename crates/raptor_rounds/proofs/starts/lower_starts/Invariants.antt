@@ -1,6 +1,5 @@
 use Rattle.std.proofs.Common.{◌≡◌, ℕ, ◌<◌, ◌≤◌, length, slice_index}
 use Rattle.std.specs.Prelude.{slice_get, Some}
-use Rattle.route_split.specs.declared.place.RouteCall.{RouteCall}
 use Rattle.raptor_rounds.proofs.starts.lower_starts.Given as goal
 
 abbrev pub invariant-loop-c : goal.invariant-loop-c

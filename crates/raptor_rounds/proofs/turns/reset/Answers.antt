@@ -1,4 +1,4 @@
-use Rattle.std.proofs.Common.{◌≡◌, ◌<◌, ◌≤◌, ◌-◌, ◌^◌, ℕ, length, set, true, None, refl, ap, subst, ◌∙◌, arith, rules}
+use Rattle.std.proofs.Common.{◌≡◌, ◌<◌, length, set, true, None, ap, subst, ◌∙◌, rules}
 use Rattle.std.proofs.lemmas.Option.{slice_get_within, get_or_from_slice_get}
 use Rattle.std.proofs.lemmas.List.Elements.{All-get_or}
 use Rattle.raptor_rounds.specs.Answers.{HasSeconds}
@@ -30,26 +30,26 @@ loop-x-preserved c =
     let in_better : x < length ready.better = search rules in
     elim c.if-second-lt-NEVER.branch [
       | then-second-lt-NEVER w ↦
-        let seconds_is : c.if-second-lt-NEVER.ready.seconds ≡ set ready.seconds x v = ap (λ (r : Ready). r.seconds) w.ready-is ∙ w.set.ensures in
-        let by_is : c.if-second-lt-NEVER.ready.by.items ≡ set ready.by.items x 0 = ap (λ (r : Ready). r.by.items) w.ready-is in
-        let better_is : c.if-second-lt-NEVER.ready.better ≡ set ready.better x true = ap (λ (r : Ready). r.better) w.ready-is ∙ w.insert.ensures in
-        record {
-          sizes = record {
-            seconds = ap length seconds_is ∙ length-set ready.seconds x v ∙ was.sizes.seconds;
-            by = ap (λ (r : Ready). vec_len r.by) w.ready-is ∙ was.sizes.by;
-            better = ap length better_is ∙ length-set ready.better x true ∙ was.sizes.better;
-            left = was.sizes.left;
-            steps = was.sizes.steps;
-            fresh = was.sizes.fresh;
-          };
-          reset = reset_some c.args.first.now c.args.depart x v _ ready c.if-second-lt-NEVER.ready c.forget.new.found was.reset c.get.ensures c.start_second-second.ensures
-            in_seconds in_by in_better seconds_is by_is better_is;
-          best = was.best;
-        }
+          let seconds_is : c.if-second-lt-NEVER.ready.seconds ≡ set ready.seconds x v = ap (λ (r : Ready). r.seconds) w.ready-is ∙ w.set.ensures in
+          let by_is : c.if-second-lt-NEVER.ready.by.items ≡ set ready.by.items x 0 = ap (λ (r : Ready). r.by.items) w.ready-is in
+          let better_is : c.if-second-lt-NEVER.ready.better ≡ set ready.better x true = ap (λ (r : Ready). r.better) w.ready-is ∙ w.insert.ensures in
+          record {
+            sizes = record {
+              seconds = ap length seconds_is ∙ length-set ready.seconds x v ∙ was.sizes.seconds;
+              by = ap (λ (r : Ready). vec_len r.by) w.ready-is ∙ was.sizes.by;
+              better = ap length better_is ∙ length-set ready.better x true ∙ was.sizes.better;
+              left = was.sizes.left;
+              steps = was.sizes.steps;
+              fresh = was.sizes.fresh;
+            };
+            reset = reset_some c.args.first.now c.args.depart x v _ ready c.if-second-lt-NEVER.ready c.forget.new.found was.reset c.get.ensures c.start_second-second.ensures
+                in_seconds in_by in_better seconds_is by_is better_is;
+            best = was.best;
+          }
       | else-second-lt-NEVER w ↦
-        rw w.ready-is (record {
-          sizes = was.sizes;
-          reset = reset_none c.args.first.now c.args.depart x v _ ready c.forget.new.found was.reset c.get.ensures c.start_second-second.ensures w.if-second-lt-NEVER.false in_seconds;
-          best = was.best;
-        })
+          rw w.ready-is (record {
+            sizes = was.sizes;
+            reset = reset_none c.args.first.now c.args.depart x v _ ready c.forget.new.found was.reset c.get.ensures c.start_second-second.ensures w.if-second-lt-NEVER.false in_seconds;
+            best = was.best;
+          })
     ]

@@ -1,5 +1,4 @@
-use Rattle.std.proofs.Common.{◌≡◌, ℕ, ◌+◌, ◌*◌, ◌<◌, ◌≤◌, length, subst, sym, refl, ap, ◌∙◌, arith, List, Option}
-use Rattle.std.specs.Prelude.{slice_index}
+use Rattle.std.proofs.Common.{◌≡◌, ℕ, ◌+◌, ◌*◌, subst, sym, refl, ap, ◌∙◌, arith, List, Option}
 use Rattle.std.proofs.lemmas.List.{length-set}
 use Rattle.raptor_rounds.specs.Labels.{Covers}
 use Rattle.raptor_rounds.specs.Least.{IsBestOf, IsReset, Stands, Sizes}
@@ -12,23 +11,23 @@ loop-k-init g c =
     let table = c.args.table.now in
     let sizes = c.reset.ensures.sizes in
     let is : IsReset c.args.first.now c.args.depart table.stops c.reset.new.ready c.reset.new.found =
-      subst (λ n. IsReset c.args.first.now c.args.depart n c.reset.new.ready c.reset.new.found) c.requires.sizes.seconds c.reset.ensures.reset in
+    subst (λ n. IsReset c.args.first.now c.args.depart n c.reset.new.ready c.reset.new.found) c.requires.sizes.seconds c.reset.ensures.reset in
     let sized : Sizes table.stops c.reset.new.ready c.reset.new.found =
-      subst (λ n. Sizes n c.reset.new.ready c.reset.new.found) c.requires.sizes.seconds sizes in
+    subst (λ n. Sizes n c.reset.new.ready c.reset.new.found) c.requires.sizes.seconds sizes in
     record {
       sizes = sized;
       starts = refl;
       marks = refl;
       base_is = omega arith;
       closed = closed_first table c.args.list.now c.args.first.now c.args.last.now c.args.depart c.reset.new.ready c.reset.new.found sized is c.reset.ensures.best
-        c.routes-routes.ensures.whole c.requires.list c.requires.first c.requires.last;
+          c.routes-routes.ensures.whole c.requires.list c.requires.first c.requires.last;
       covers = covers_first table c.args.list.now c.args.first.now c.args.last.now c.args.depart c.reset.new.ready c.reset.new.found sized is c.reset.ensures.best
-        c.routes-routes.ensures.whole c.requires.list c.requires.first c.requires.last;
+          c.routes-routes.ensures.whole c.requires.list c.requires.first c.requires.last;
       counted = omega arith;
       stands = λ q asks. stands_first table c.args.list.now c.args.first.now c.args.last.now c.args.depart c.reset.new.ready c.reset.new.found sized is c.reset.ensures.best
-        c.routes-routes.ensures.whole c.requires.list c.requires.first c.requires.last q asks c.args.slots.now;
+          c.routes-routes.ensures.whole c.requires.list c.requires.first c.requires.last q asks c.args.slots.now;
       bests = λ q asks j b few at. best_first table c.args.list.now c.args.first.now c.args.last.now c.args.depart c.reset.new.ready c.reset.new.found sized is c.reset.ensures.best
-        c.routes-routes.ensures.whole c.requires.list c.requires.first c.requires.last q asks c.args.slots.now c.args.bests.now c.reset.new.found.best_step j b (omega (arith, c.requires.bests)) few at;
+          c.routes-routes.ensures.whole c.requires.list c.requires.first c.requires.last q asks c.args.slots.now c.args.bests.now c.reset.new.found.best_step j b (omega (arith, c.requires.bests)) few at;
     }
 
 pub loop-k-preserved : goal.loop-k-preserved
@@ -47,14 +46,20 @@ loop-k-preserved g c =
       covers = now.covers was.covers;
       counted = omega (arith, was.counted, now.counted);
       stands = λ q asks. subst (λ n. Stands q (k + 1) (c.loop-k.base + n) c.round.new.slots c.round.new.ready c.round.new.found) stops_are
-        (stands_more q k table.stops c.loop-k.base c.loop-k.slots c.round.new.slots c.loop-k.ready c.round.new.ready c.loop-k.found c.round.new.found now.slots (was.stands q asks)
+          (stands_more q k table.stops c.loop-k.base c.loop-k.slots c.round.new.slots c.loop-k.ready c.round.new.ready c.loop-k.found c.round.new.found now.slots (was.stands q asks)
           (now.goes_on q k asks.table_of asks.last_is asks.list_is was.closed));
       bests = λ q asks j b few at. subst (λ n. IsBestOf q c.round.new.slots (c.loop-k.base + n) j b) stops_are
-        (bests_more q table k table.stops c.loop-k.base c.loop-k.slots c.round.new.slots c.loop-k.ready c.round.new.ready c.loop-k.found c.round.new.found c.loop-k.bests
+          (bests_more q table k table.stops c.loop-k.base c.loop-k.slots c.round.new.slots c.loop-k.ready c.round.new.ready c.loop-k.found c.round.new.found c.loop-k.bests
           asks.table_of c.routes-routes.ensures.whole now.slots (was.stands q asks) (now.goes_on q k asks.table_of asks.last_is asks.list_is was.closed)
           (subst (λ (l : List (Option ℕ)). Covers l c.round.new.found) (sym asks.last_is) (now.covers was.covers))
-          (omega (arith, c.requires.bests, c.loop-k.auto.bests, c.loop-k-test.true, c.loop-k.auto.k-end,
-            length-set c.args.bests.now 0 (record { second = c.reset.new.found.best; step = c.reset.new.found.best_step }))) (was.bests q asks) j b few at);
+          (omega (
+            arith,
+            c.requires.bests,
+            c.loop-k.auto.bests,
+            c.loop-k-test.true,
+            c.loop-k.auto.k-end,
+            length-set c.args.bests.now 0 (record { second = c.reset.new.found.best; step = c.reset.new.found.best_step }),
+          )) (was.bests q asks) j b few at);
     }
 
 pub returns-clause-best : goal.returns-clause-best

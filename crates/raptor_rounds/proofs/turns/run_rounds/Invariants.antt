@@ -1,4 +1,4 @@
-use Rattle.std.proofs.Common.{◌≡◌, ℕ, ◌+◌, ◌*◌, ◌<◌, ◌≤◌, length}
+use Rattle.std.proofs.Common.{◌≡◌, ℕ, ◌+◌, ◌*◌, ◌≤◌, length}
 use Rattle.std.specs.Prelude.{slice_get, Some}
 use Rattle.raptor_rounds.specs.declared.labels.Best.{Best}
 use Rattle.raptor_rounds.specs.Ways.{Query}

@@ -1,4 +1,4 @@
-use Rattle.std.proofs.Common.{◌≡◌, ◌+◌, ◌-◌, ◌^◌, ℕ, List, Option, None, [], ◌∷◌, length, map, take, ap, ◌∙◌, arith, rules}
+use Rattle.std.proofs.Common.{◌≡◌, ◌+◌, None, [], ◌∷◌, length, map, take, ap, ◌∙◌, arith, rules}
 use Rattle.std.specs.Prelude.{replicate}
 use Rattle.std.proofs.lemmas.List.{length-replicate}
 use Rattle.raptor_rounds.specs.declared.labels.Best.{Best}
@@ -13,7 +13,7 @@ returns c =
     let bests = c.in_ok-bests.bests.items in
     let are : bests ≡ replicate (c.args.limit + 1) none = search rules in
     let many : length c.in_ok-starts.starts ≡ length c.args.table.now.routes =
-      ap length c.in_ok-starts.ensures ∙ length-replicate c.routes.result 4294967295 ∙ c.routes.ensures.count in
+    ap length c.in_ok-starts.ensures ∙ length-replicate c.routes.result 4294967295 ∙ c.routes.ensures.count in
     let told : map (answer_of slots) (take 1 bests) ≡ None ∷ [] =
-      ap (λ l. map (answer_of slots) (take 1 l)) are ∙ none_first slots c.args.limit none (omega arith) in
+    ap (λ l. map (answer_of slots) (take 1 l)) are ∙ none_first slots c.args.limit none (omega arith) in
     kept_same c.args.stops _ _ c.args.limit _ _ many told

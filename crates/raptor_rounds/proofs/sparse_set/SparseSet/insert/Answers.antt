@@ -1,6 +1,6 @@
-use Rattle.std.proofs.Common.{◌≡◌, ◌<◌, ◌≤◌, ◌+◌, ℕ, List, Bool, length, map, set, true, nat_lt, subst, sym, ap, ◌∙◌, arith, rules}
+use Rattle.std.proofs.Common.{◌≡◌, ◌<◌, List, Bool, length, set, true, nat_lt, subst, ap, ◌∙◌, arith, rules}
 use Rattle.std.proofs.lemmas.List.{length-map, length-set}
-use Rattle.raptor_rounds.proofs.SetLemmas.{place_in, count_in, other_in, arranged_now, shown_now, shown_same, read_is}
+use Rattle.raptor_rounds.proofs.SetLemmas.{arranged_now, shown_now, shown_same, read_is}
 use Rattle.raptor_rounds.proofs.sparse_set.SparseSet.insert.Goals as goal
 
 pub returns-then-place-count : goal.returns-then-place-count
