@@ -23,5 +23,7 @@ mod sparse_row;
 mod sparse_set;
 mod starts;
 mod turns;
+#[cfg(test)]
+mod tests;
 
 pub use rounds::Rounds;
