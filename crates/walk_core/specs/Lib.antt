@@ -1,0 +1,6 @@
+pub mod Core
+pub mod Row
+pub mod Rows
+pub mod Search
+pub mod Bridge
+pub mod State
