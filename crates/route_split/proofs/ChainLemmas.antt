@@ -2,7 +2,7 @@
 use Rattle.std.proofs.Common.{◌≡◌, ℕ, ◌+◌, ◌-◌, ◌%◌, ◌<◌, ◌≤◌, ◌⊎◌, inl, inr, List, [], ◌∷◌, ◌++◌, length, map, get_or, set, subst, sym, refl, ap, ◌∙◌, arith, Some, get_or-set_same, get_or-set_other}
 use Rattle.std.specs.Prelude.{slice_get, slice_index}
 use Rattle.std.specs.List.{fold}
-use Rattle.std.proofs.lemmas.Bool.{cases_lt, cases_eq, cases_order}
+use Rattle.std.proofs.lemmas.Bool.{cases_lt, cases_eq}
 use Rattle.std.proofs.lemmas.List.{length-set, get_or_append_left, get_or_push, length_push}
 use Rattle.std.proofs.lemmas.Option.{slice_get-get_or, get_or_from_slice_get}
 use Rattle.move_model.specs.declared.network.Trip.{Trip}
@@ -146,28 +146,6 @@ module _ (trips : List Trip) (lasts tops nexts : List ℕ) (u b : ℕ) (was : Ar
   -- the routes of the chain from its top on: none before
   pub none_above : (g : ℕ) → g < length lasts → slice_index tops b ≤ g → bucket_of trips (length tops) (slice_index lasts g) ≡ b → CannotStand trips (slice_index lasts g) u
   none_above g low over on = absurd (omega (arith, over, subst (λ n. g < slice_index tops n) on (was.newest g low)))
-
-  -- one route was tried, and the chain goes on below it
-  pub none_between : (link next : ℕ) → next ≡ slice_index nexts (link - 1) → 0 < link → link ≤ length lasts
-      → bucket_of trips (length tops) (slice_index lasts (link - 1)) ≡ b
-      → ((g : ℕ) → g < length lasts → link ≤ g → bucket_of trips (length tops) (slice_index lasts g) ≡ b → CannotStand trips (slice_index lasts g) u)
-      → CannotStand trips (slice_index lasts (link - 1)) u
-      → (g : ℕ) → g < length lasts → next ≤ g → bucket_of trips (length tops) (slice_index lasts g) ≡ b → CannotStand trips (slice_index lasts g) u
-  none_between link next is some low here tried not_here g low_g over on = elim (cases_order g (link - 1)) [
-    | inl same ↦ subst (λ n. CannotStand trips (slice_index lasts n) u) (sym same) not_here
-    | inr apart ↦ elim apart [
-      | inl before ↦ absurd (omega (arith, is, over, was.next g (link - 1) before (omega (arith, some, low)) (on ∙ sym here)))
-      | inr behind ↦ tried g low_g (omega (arith, behind, some)) on
-    ]
-  ]
-
-  pub next_on : (link next : ℕ) → next ≡ slice_index nexts (link - 1) → 0 < link → link ≤ length lasts
-      → bucket_of trips (length tops) (slice_index lasts (link - 1)) ≡ b → 0 < next
-      → bucket_of trips (length tops) (slice_index lasts (next - 1)) ≡ b
-  next_on link next is some low here more =
-      ap (λ n. bucket_of trips (length tops) (slice_index lasts (n - 1))) is
-      ∙ was.next_in (link - 1) (omega (arith, some, low)) (omega (arith, is, more))
-      ∙ here
 
   -- the chain was tried to its end
   pub none_at_all : ((g : ℕ) → g < length lasts → slice_index lasts g < length trips) → u < length trips → b ≡ bucket_of trips (length tops) u

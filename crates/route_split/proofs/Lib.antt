@@ -12,3 +12,4 @@ pub mod RoutesLemmas
 pub mod IndexLemmas
 pub mod ChainLemmas
 pub mod SoFarLemmas
+pub mod JumpLemmas

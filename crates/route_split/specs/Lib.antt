@@ -5,3 +5,4 @@ pub mod Routes
 pub mod Split
 pub mod Fill
 pub mod Chains
+pub mod Jumps

@@ -6,8 +6,10 @@
 //! trips at one call side by side, and [`catch`] finds in a row the first trip that is not missed.
 #![tactic(auto)]
 
+mod chains;
 mod day;
 mod fill;
+mod follow;
 mod groups;
 mod index;
 mod marks;

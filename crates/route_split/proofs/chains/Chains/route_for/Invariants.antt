@@ -1,7 +1,7 @@
 use Rattle.std.proofs.Common.{◌≡◌, ◌-◌, ◌<◌, ◌≤◌, ℕ, length, slice_index}
 use Rattle.route_split.specs.Split.{CannotStand}
 use Rattle.route_split.specs.Chains.{bucket_of}
-use Rattle.route_split.proofs.partition.Chains.route_for.Given as goal
+use Rattle.route_split.proofs.chains.Chains.route_for.Given as goal
 
 abbrev pub invariant-loop-link : goal.invariant-loop-link
 invariant-loop-link l = record {
