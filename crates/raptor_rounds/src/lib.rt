@@ -22,8 +22,8 @@ mod scan;
 mod sparse_row;
 mod sparse_set;
 mod starts;
-mod turns;
 #[cfg(test)]
 mod tests;
+mod turns;
 
 pub use rounds::Rounds;

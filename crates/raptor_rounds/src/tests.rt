@@ -3,9 +3,9 @@ ghost use Rattle.std.specs.Prelude.{◌≡◌, ◌<◌, ◌≤◌, ◌-◌, ◌^
 ghost use Rattle.raptor_rounds.specs.Answers.{IsEntryWithin, HasSeconds};
 
 use super::*;
-use move_model::{List, RideList,
-    Arcs, Call, Calls, Network, NoMemory, NodeNo, Ride, Shortcut, Shortcuts, Stop, StopNo, Stops,
-    Trip, TripNo, Trips, WalkRow,
+use move_model::{
+    Arcs, Call, Calls, List, Network, NoMemory, NodeNo, Ride, RideList, Shortcut, Shortcuts, Stop,
+    StopNo, Stops, Trip, TripNo, Trips, WalkRow,
 };
 use route_split::{Timetable, catch};
 use std::alloc::Global;
@@ -157,7 +157,11 @@ fn rides_twice(rt: HostRuntime) -> Result<(), NoMemory> {
     let Some(rides) = legs else {
         return Err(NoMemory);
     };
-    let ride = |trip: u32| Ride { trip: TripNo(trip), board: 0, alight: 1 };
+    let ride = |trip: u32| Ride {
+        trip: TripNo(trip),
+        board: 0,
+        alight: 1,
+    };
     assert!(rt; rides.as_slice() == [ride(0), ride(1)].as_slice());
     assert!(rt; catch(&[28800], 28800) == Some(0));
     assert!(rt; catch(&[28800], 28801).is_none());

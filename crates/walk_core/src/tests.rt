@@ -61,7 +61,12 @@ fn keeps_all_vertices(rt: HostRuntime) -> Result<(), Fail> {
     let core = core_of(rt.alloc(), text, &[1, 2, 3, 4]).ok_or("no core")?;
     assert_eq!(rt; core.nodes(), 4);
     assert_eq!(rt; core.contracted(), [].as_slice());
-    assert!(rt; core.holds(NodeNo(1)) && core.holds(NodeNo(4)) && !core.holds(NodeNo(5)) && !core.holds(NodeNo(0)));
+    assert!(rt;
+        core.holds(NodeNo(1))
+            && core.holds(NodeNo(4))
+            && !core.holds(NodeNo(5))
+            && !core.holds(NodeNo(0))
+    );
     assert_eq!(rt; core.out(NodeNo(2)), [arc(3, 240, 0)].as_slice());
     assert_eq!(rt; core.out(NodeNo(4)), [arc(1, 7200, 0)].as_slice());
     assert_eq!(rt; core.out(NodeNo(9)), [].as_slice());
@@ -79,7 +84,10 @@ fn contracts_what_is_not_kept(rt: HostRuntime) -> Result<(), Fail> {
     assert_eq!(rt; core.out(NodeNo(3)), [arc(1, 15, 2)].as_slice());
     assert_eq!(rt; core.out(NodeNo(2)), [].as_slice());
     assert_eq!(rt; core.up(NodeNo(2)), [arc(3, 4, 0), arc(1, 9, 0)].as_slice());
-    assert_eq!(rt; core.down(NodeNo(2)), [arc(1, 3, 0), arc(3, 6, 0)].as_slice());
+    assert_eq!(rt;
+        core.down(NodeNo(2)),
+        [arc(1, 3, 0), arc(3, 6, 0)].as_slice()
+    );
     Ok(())
 }
 
