@@ -52,6 +52,12 @@ impl Core {
     pub fn out(&self, node: NodeNo) -> &[CoreArc]
         ensures { result.now ≡ core_row self.now node.0 }
     {
+        self.row_in_core(node)
+    }
+
+    fn row_in_core(&self, node: NodeNo) -> &[CoreArc]
+        ensures { result.now ≡ core_row self.now node.0 }
+    {
         if is_left(self.rank.as_slice(), node) {
             self.out.row(node)
         } else {
