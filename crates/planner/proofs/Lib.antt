@@ -1,1 +1,15 @@
 mod CauseLemmas
+mod RejectLemmas
+mod ListLemmas
+mod StableLemmas
+mod FilledLemmas
+mod FeedOnce
+mod DayOnce
+mod StreetsOnce
+mod PointsOnce
+mod StopsOnce
+mod InputOnce
+mod FaultOnce
+mod TextOnce
+mod FeedRefusal
+mod StreetsRejected

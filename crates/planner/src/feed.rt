@@ -1,12 +1,13 @@
 // The feed's folder, and its trips of the day.
-ghost use Rattle.std.specs.Prelude.{◌≡◌, ◌≤◌, ℕ, List, length, All, IfOk, IfErr};
+ghost use Rattle.std.specs.Prelude.{◌≡◌, ◌≤◌, ℕ, List, length, All, IfOk, OnOk, IfErr};
 ghost use Rattle.move_files.specs.Outside.{NeverFalls};
 ghost use Rattle.gtfs_feed.specs.Feed.{IsFeed};
 ghost use Rattle.feed_values.specs.Date.{IsDay};
 ghost use Rattle.planner.specs.Words.{Plan, told};
 ghost use Rattle.service_day.specs.DayTrips.{IsDayTrip, call_count, most_trips, most_calls};
 ghost use Rattle.planner.specs.Status.{HasCause};
-ghost use Rattle.planner.specs.Input.{Held, held, HoldsDays, HoldsTrips, IsFeedIn, AreDayTrips};
+ghost use Rattle.planner.specs.Input.{Held, held, AllReadable, day_order, trip_order, HoldsDays, HoldsTrips, IsFeedIn, AreDayTrips};
+ghost use Rattle.planner.specs.Rejected.{IfRejected, RejectsFiles, RejectsFeed, RejectsDay};
 
 use crate::inputs::{read_file, read_optional, status_of};
 use crate::status::Status;
@@ -39,6 +40,8 @@ fn read_day_files<F: Files>(
     files: &mut F,
 ) -> Result<DayFiles, Status>
     ensures told { F.tells → IfOk result (HoldsDays (held (told plan.now) (F.holds files.old))) }
+    ensures readable { F.tells → OnOk result (AllReadable (held (told plan.now) (F.holds files.old)) day_order) }
+    ensures rejected { F.tells → IfErr result (IfRejected (RejectsFiles (held (told plan.now) (F.holds files.old)) day_order)) }
     ensures cause { IfErr result (HasCause (told plan.now) (F.misses files.old) (F.misses files.new) (F.read_faults files.old) (F.read_faults files.new)) }
     ensures contents { F.holds files.new ≡ F.holds files.old }
     ensures counts { NeverFalls (F.read_faults files.old) (F.read_faults files.new) × NeverFalls (F.misses files.old) (F.misses files.new) }
@@ -59,6 +62,8 @@ fn read_trip_files<F: Files>(
     files: &mut F,
 ) -> Result<TripFiles, Status>
     ensures told { F.tells → IfOk result (HoldsTrips (held (told plan.now) (F.holds files.old))) }
+    ensures readable { F.tells → OnOk result (AllReadable (held (told plan.now) (F.holds files.old)) trip_order) }
+    ensures rejected { F.tells → IfErr result (IfRejected (RejectsFiles (held (told plan.now) (F.holds files.old)) trip_order)) }
     ensures cause { IfErr result (HasCause (told plan.now) (F.misses files.old) (F.misses files.new) (F.read_faults files.old) (F.read_faults files.new)) }
     ensures contents { F.holds files.new ≡ F.holds files.old }
     ensures counts { NeverFalls (F.read_faults files.old) (F.read_faults files.new) × NeverFalls (F.misses files.old) (F.misses files.new) }
@@ -74,8 +79,12 @@ fn read_trip_files<F: Files>(
 }
 
 // The feed of its files.
+#[tactic(auto, unfolding(crate::specs::Status::HasCause, crate::specs::Rejected::IfRejected))]
 fn feed_of(alloc: Global, days: &DayFiles, trips: &TripFiles) -> Result<Feed, Status>
-    ensures told { (held : Held) → HoldsDays held days.now → HoldsTrips held trips.now → IfOk result (IsFeedIn held) }
+    ensures told { (held : Held) → AllReadable held day_order → AllReadable held trip_order → HoldsDays held days.now → HoldsTrips held trips.now
+        → IfOk result (IsFeedIn held) }
+    ensures rejected { (held : Held) → AllReadable held day_order → AllReadable held trip_order → HoldsDays held days.now → HoldsTrips held trips.now
+        → IfErr result (IfRejected (RejectsFeed held)) }
     ensures feed { IfOk result IsFeed }
     ensures cause { (plan : Plan) (misses misses' faults faults' : List ℕ → ℕ) → IfErr result (HasCause plan misses misses' faults faults') }
 {
@@ -96,6 +105,7 @@ fn feed_of(alloc: Global, days: &DayFiles, trips: &TripFiles) -> Result<Feed, St
 /// Reads the feed's folder.
 pub fn read_folder<F: Files>(alloc: Global, plan: &PlanWords, files: &mut F) -> Result<Feed, Status>
     ensures told { F.tells → IfOk result (IsFeedIn (held (told plan.now) (F.holds files.old))) }
+    ensures rejected { F.tells → IfErr result (IfRejected (RejectsFeed (held (told plan.now) (F.holds files.old)))) }
     ensures feed { IfOk result IsFeed }
     ensures cause { IfErr result (HasCause (told plan.now) (F.misses files.old) (F.misses files.new) (F.read_faults files.old) (F.read_faults files.new)) }
     ensures contents { F.holds files.new ≡ F.holds files.old }
@@ -107,11 +117,12 @@ pub fn read_folder<F: Files>(alloc: Global, plan: &PlanWords, files: &mut F) -> 
 }
 
 /// The trips of a date and the night trips of the day before.
-#[tactic(auto, unfolding(crate::specs::Status::HasCause))]
+#[tactic(auto, using(crate::proofs::RejectLemmas::day_rule), unfolding(crate::specs::Status::HasCause, crate::specs::Rejected::IfRejected))]
 pub fn day_trips(alloc: Global, feed: &Feed, date: u32) -> Result<Trips, Status>
     requires feed { IsFeed feed.now }
     requires date { IsDay date }
     ensures trips { IfOk result (AreDayTrips date feed.now) }
+    ensures rejected { IfErr result (IfRejected (RejectsDay date feed.now)) }
     ensures valid { IfOk result (All (IsDayTrip (length feed.now.stops))) }
     ensures few_trips { IfOk result (λ trips. length trips ≤ most_trips) }
     ensures few_calls { IfOk result (λ trips. call_count trips ≤ most_calls) }

@@ -9,8 +9,10 @@ ghost use Rattle.plan_core.specs.Answer.{PrintsAll};
 ghost use Rattle.move_files.specs.Outside.{Rose, NeverFalls, SendsPrefix};
 ghost use Rattle.feed_values.specs.Date.{IsDay};
 ghost use Rattle.planner.specs.Words.{Plan, told, plan_of, name_in};
-ghost use Rattle.planner.specs.Input.{held, IsGraphIn, ArePointsIn, AreStopsIn, IsNetworkIn, AreQueriesIn, PrintsInput};
+ghost use Rattle.planner.specs.Input.{held, IsReadable, IsGraphIn, ArePointsIn, AreStopsIn, IsNetworkIn, AreQueriesIn, InputAccepted, PrintsInput};
+ghost use Rattle.planner.specs.Rejected.{IfRejected, RejectsGraph, RejectsPoints, RejectsPlaces, RejectsStops, RejectsNetwork, RejectsInput, ComesUnlessStopped, NoneRose, FitsInput};
 ghost use Rattle.planner.specs.Status.{HasCause, SendsOnly, line_of};
+ghost use Rattle.planner.specs.declared.status.Status.{Status as Ending};
 ghost use Rattle.move_model.specs.declared.refusal.FileKind.{FileKind};
 ghost use Rattle.move_model.specs.declared.refusal.FileKind.TheVariants as Kind;
 
@@ -31,9 +33,10 @@ use stop_places::{Near, place_stops};
 use street_graph::{Graph, read_co, read_gr};
 
 // Reads the street graph.
-#[tactic(auto, unfolding(crate::specs::Status::HasCause))]
+#[tactic(auto, unfolding(crate::specs::Status::HasCause, crate::specs::Rejected::IfRejected))]
 fn read_streets<F: Files>(alloc: Global, plan: &PlanWords, files: &mut F) -> Result<Graph, Status>
     ensures told { F.tells → IfOk result (IsGraphIn (held (told plan.now) (F.holds files.old))) }
+    ensures rejected { F.tells → IfErr result (IfRejected (RejectsGraph (held (told plan.now) (F.holds files.old)))) }
     ensures cause { IfErr result (HasCause (told plan.now) (F.misses files.old) (F.misses files.new) (F.read_faults files.old) (F.read_faults files.new)) }
     ensures contents { F.holds files.new ≡ F.holds files.old }
     ensures counts { NeverFalls (F.read_faults files.old) (F.read_faults files.new) × NeverFalls (F.misses files.old) (F.misses files.new) }
@@ -46,7 +49,7 @@ fn read_streets<F: Files>(alloc: Global, plan: &PlanWords, files: &mut F) -> Res
 }
 
 // Reads the points of so many vertices, where CO names a file.
-#[tactic(auto, unfolding(crate::specs::Status::HasCause))]
+#[tactic(auto, unfolding(crate::specs::Status::HasCause, crate::specs::Rejected::IfRejected))]
 fn read_points<F: Files>(
     alloc: Global,
     plan: &PlanWords,
@@ -55,6 +58,7 @@ fn read_points<F: Files>(
 ) -> Result<Option<Grid>, Status>
     requires { 0 < nodes }
     ensures told { F.tells → IfOk result (ArePointsIn (told plan.now) (held (told plan.now) (F.holds files.old)) nodes) }
+    ensures rejected { F.tells → IfErr result (IfRejected (RejectsPoints (told plan.now) (held (told plan.now) (F.holds files.old)) nodes)) }
     ensures one_each { IfOk result (λ points. ForSome points (λ points. length points ≡ nodes)) }
     ensures cause { IfErr result (HasCause (told plan.now) (F.misses files.old) (F.misses files.new) (F.read_faults files.old) (F.read_faults files.new)) }
     ensures contents { F.holds files.new ≡ F.holds files.old }
@@ -75,6 +79,7 @@ fn read_points<F: Files>(
 }
 
 // Reads the vertices of the stops, and places the stops.
+#[tactic(auto, unfolding(crate::specs::Status::HasCause, crate::specs::Rejected::IfRejected))]
 fn read_places<F: Files>(
     alloc: Global,
     plan: &PlanWords,
@@ -87,6 +92,8 @@ fn read_places<F: Files>(
     requires points { IfSome near (λ near. length near.grid.now ≡ nodes) }
     ensures told { F.tells → IfOk result (ArePlaced (table_vertex (held (told plan.now) (F.holds files.old) Kind.StopNodes)) near.entry feed.now.stops) }
     ensures accepted { F.tells → OnOk result (TableAccepted feed.now.stops nodes (held (told plan.now) (F.holds files.old) Kind.StopNodes)) }
+    ensures readable { F.tells → OnOk result (IsReadable (held (told plan.now) (F.holds files.old)) Kind.StopNodes) }
+    ensures rejected { F.tells → IfErr result (IfRejected (RejectsPlaces (held (told plan.now) (F.holds files.old)) near.entry feed.now.stops nodes)) }
     ensures vertices { IfOk result (All (λ stop. (1 ≤ stop.node.0) × (stop.node.0 ≤ nodes))) }
     ensures as_many { IfOk result (λ placed. length placed ≡ length feed.now.stops) }
     ensures cause { IfErr result (HasCause (told plan.now) (F.misses files.old) (F.misses files.new) (F.read_faults files.old) (F.read_faults files.new)) }
@@ -101,6 +108,7 @@ fn read_places<F: Files>(
 }
 
 // Reads the stops of a feed at their vertices.
+#[tactic(auto, unfolding(crate::specs::Status::HasCause, crate::specs::Rejected::IfRejected))]
 fn read_stops<F: Files>(
     alloc: Global,
     plan: &PlanWords,
@@ -111,6 +119,7 @@ fn read_stops<F: Files>(
     requires scale { plan.now.scale ≤ 1000 }
     requires some { 0 < nodes }
     ensures told { F.tells → IfOk result (AreStopsIn (told plan.now) (held (told plan.now) (F.holds files.old)) feed.now nodes) }
+    ensures rejected { F.tells → IfErr result (IfRejected (RejectsStops (told plan.now) (held (told plan.now) (F.holds files.old)) feed.now nodes)) }
     ensures vertices { IfOk result (All (λ stop. (1 ≤ stop.node.0) × (stop.node.0 ≤ nodes))) }
     ensures as_many { IfOk result (λ placed. length placed ≡ length feed.now.stops) }
     ensures cause { IfErr result (HasCause (told plan.now) (F.misses files.old) (F.misses files.new) (F.read_faults files.old) (F.read_faults files.new)) }
@@ -130,7 +139,7 @@ fn read_stops<F: Files>(
 }
 
 // The network of its parts.
-#[tactic(auto, unfolding(crate::specs::Status::HasCause))]
+#[tactic(auto, unfolding(crate::specs::Status::HasCause, crate::specs::Rejected::IfRejected))]
 fn network_of(
     alloc: Global,
     graph: &Graph,
@@ -139,6 +148,7 @@ fn network_of(
     buffer: u32,
 ) -> Result<Network, Status>
     ensures parts { IfOk result (λ n. (streets n ≡ graph.now) × (n.stops ≡ stops) × (n.trips ≡ trips) × (n.buffer ≡ buffer)) }
+    ensures wants { IfErr result (λ status. status ≡ Status.NoMemory) }
     ensures cause { (plan : Plan) (misses misses' faults faults' : List ℕ → ℕ) → IfErr result (HasCause plan misses misses' faults faults') }
 {
     let Ok(arcs) = List::from_slice(alloc, graph.arcs()) else {
@@ -158,6 +168,7 @@ fn read_network<F: Files>(alloc: Global, plan: &PlanWords, files: &mut F) -> Res
     requires date { IsDay plan.now.date }
     requires scale { plan.now.scale ≤ 1000 }
     ensures told { F.tells → IfOk result (IsNetworkIn (told plan.now) (held (told plan.now) (F.holds files.old))) }
+    ensures rejected { F.tells → IfErr result (IfRejected (RejectsNetwork (told plan.now) (held (told plan.now) (F.holds files.old)))) }
     ensures network { IfOk result IsNetwork }
     ensures numbered { IfOk result IsNumbered }
     ensures cause { IfErr result (HasCause (told plan.now) (F.misses files.old) (F.misses files.new) (F.read_faults files.old) (F.read_faults files.new)) }
@@ -173,6 +184,7 @@ fn read_network<F: Files>(alloc: Global, plan: &PlanWords, files: &mut F) -> Res
 }
 
 // Reads the network and the queries of the files.
+#[tactic(auto, unfolding(crate::specs::Status::HasCause, crate::specs::Rejected::IfRejected))]
 fn read_inputs<F: Files>(
     alloc: Global,
     plan: &PlanWords,
@@ -182,6 +194,7 @@ fn read_inputs<F: Files>(
     requires scale { plan.now.scale ≤ 1000 }
     ensures told { F.tells → IfOk result (λ inputs. IsNetworkIn (told plan.now) (held (told plan.now) (F.holds files.old)) inputs.0) }
     ensures asked { F.tells → IfOk result (λ inputs. AreQueriesIn (held (told plan.now) (F.holds files.old)) inputs.0 inputs.1) }
+    ensures rejected { F.tells → IfErr result (IfRejected (RejectsInput (told plan.now) (held (told plan.now) (F.holds files.old)))) }
     ensures network { IfOk result (λ inputs. IsNetwork inputs.0 × IsNumbered inputs.0) }
     ensures at { IfOk result (λ inputs. All IsAt inputs.1) }
     ensures few { IfOk result (λ inputs. length inputs.1 ≤ 100000) }
@@ -226,6 +239,7 @@ fn send_answers<O: Sink, L: Ledger, M: Ledger>(
 }
 
 // Runs `plan`.
+#[tactic(auto, using(crate::proofs::RejectLemmas::fits_past), unfolding(crate::specs::Status::HasCause, crate::specs::Rejected::IfRejected))]
 fn run_plan<F: Files, O: Sink, L: Ledger, M: Ledger>(
     alloc: Global,
     plan: &PlanWords,
@@ -238,6 +252,7 @@ fn run_plan<F: Files, O: Sink, L: Ledger, M: Ledger>(
     requires scale { plan.now.scale ≤ 1000 }
     ensures done { F.tells → O.tells → result ≡ Status.Done
         → PrintsInput (told plan.now) (held (told plan.now) (F.holds files.old)) (O.sent out.old) (O.sent out.new) }
+    ensures fits { F.tells → FitsInput (told plan.now) (held (told plan.now) (F.holds files.old)) result }
     ensures not_usage { result ≢ Status.Usage }
     ensures no_file { (kind : FileKind) → result ≡ Status.NoFile kind → Rose (F.misses files.old (name_in (told plan.now) kind)) (F.misses files.new (name_in (told plan.now) kind)) }
     ensures read_fault { (kind : FileKind) → result ≡ Status.ReadFault kind → Rose (F.read_faults files.old (name_in (told plan.now) kind)) (F.read_faults files.new (name_in (told plan.now) kind)) }
@@ -263,6 +278,7 @@ fn run_command<F: Files, O: Sink, L: Ledger, M: Ledger>(
 ) -> Status
     ensures done { F.tells → O.tells → result ≡ Status.Done
         → IfSome (plan_of words.now) (λ plan. PrintsInput plan (held plan (F.holds files.old)) (O.sent out.old) (O.sent out.new)) }
+    ensures fits { F.tells → IfSome (plan_of words.now) (λ plan. FitsInput plan (held plan (F.holds files.old)) result) }
     ensures usage { (result ≡ Status.Usage) ↔ IsNone (plan_of words.now) }
     ensures no_file { (kind : FileKind) → result ≡ Status.NoFile kind
         → IfSome (plan_of words.now) (λ plan. Rose (F.misses files.old (name_in plan kind)) (F.misses files.new (name_in plan kind))) }
@@ -304,7 +320,21 @@ pub fn run<F: Files, O: Sink, E: Sink, L: Ledger, M: Ledger>(
     ensures done { F.tells → O.tells → result ≡ Status.Done
         → IfSome (plan_of words.now) (λ plan. PrintsInput plan (held plan (F.holds files.old)) (O.sent out.old) (O.sent out.new)) }
 
-    // Usage comes exactly where the words are no command; every other stop only where its own count rose.
+    // Refused and NoFile tell the first thing that is wrong with the files, in the order in which they are read; Done and
+    // WriteFault come where nothing is wrong with them.
+    ensures fits { F.tells → IfSome (plan_of words.now) (λ plan. FitsInput plan (held plan (F.holds files.old)) result) }
+
+    // Where something is wrong with the files, its status comes, unless memory was wanting or a read failed.
+    ensures rejected { F.tells → (status : Ending) → IfSome (plan_of words.now) (λ plan. RejectsInput plan (held plan (F.holds files.old)) status
+        → ComesUnlessStopped status result) }
+
+    // Where nothing is wrong with them and no count of faults rose, all was done, or memory was wanting.
+    ensures complete { F.tells → IfSome (plan_of words.now) (λ plan. InputAccepted plan (held plan (F.holds files.old))
+        → NoneRose (F.read_faults files.old) (F.read_faults files.new) → (Rose (O.faults out.old) (O.faults out.new) → ⊥)
+        → (result ≡ Status.Done) ⊎ (result ≡ Status.NoMemory)) }
+
+    // Usage comes exactly where the words are no command; a missing file and a fault only where the count of that file's
+    // name rose, and a failed write only where that of out rose.
     ensures usage { (result ≡ Status.Usage) ↔ IsNone (plan_of words.now) }
     ensures no_file { (kind : FileKind) → result ≡ Status.NoFile kind
         → IfSome (plan_of words.now) (λ plan. Rose (F.misses files.old (name_in plan kind)) (F.misses files.new (name_in plan kind))) }

@@ -3,9 +3,10 @@ ghost use Rattle.std.specs.Prelude.{◌≡◌, ◌<◌};
 
 use crate::run::run;
 use crate::status::Status;
-use move_files::{Files, MemFiles, MemSink, Sink};
+use move_files::{DiskFiles, Files, MemFiles, MemSink, Sink};
 use move_model::FileKind;
 use std::alloc::Global;
+use std::fs;
 use std::marker::Brand;
 use std::sync::ledger::{Blank, Ledger};
 use std::test::Fail;
@@ -59,9 +60,18 @@ fn run_counted<F: Files, O: Sink, E: Sink, L: Ledger, M: Ledger>(
     run(alloc, words, files, out, err, &mut searches, &mut opens)
 }
 
+// A word, behind the folder of the test where it is the name of a file or a feed.
+fn word_in(alloc: Global, root: &str, word: &str) -> Result<String, Fail> {
+    let named = word.starts_with("base") || word.starts_with("hel") || word == "q.csv";
+    let mut text = String::from_str(alloc, if named { root } else { "" })?;
+    text.push_str(word)?;
+    Ok(text)
+}
+
 // Runs words over files, with counters that nobody reads.
 fn run_words<F: Files, O: Sink, E: Sink>(
     alloc: Global,
+    root: &str,
     words: &str,
     files: &mut F,
     out: &mut O,
@@ -69,7 +79,7 @@ fn run_words<F: Files, O: Sink, E: Sink>(
 ) -> Result<Status, Fail> {
     let mut list = Vec::new(alloc);
     for word in words.split(' ') {
-        list.push(String::from_str(alloc, word)?)?;
+        list.push(word_in(alloc, root, word)?)?;
     }
     Ok(run_counted::<F, O, E, Brand, Brand>(
         alloc,
@@ -101,7 +111,7 @@ fn prints_the_pairs_of_the_sample(rt: HostRuntime) -> Result<(), Fail> {
     let mut out = MemSink::new(alloc);
     out.piece(10);
     let mut err = MemSink::new(alloc);
-    let status = run_words(alloc, PLAN, &mut files, &mut out, &mut err)?;
+    let status = run_words(alloc, "", PLAN, &mut files, &mut out, &mut err)?;
     assert_eq!(rt; status, Status::Done);
     assert_eq!(rt; out.taken(), ROWS);
     assert_eq!(rt; err.taken(), b"".as_slice());
@@ -126,7 +136,7 @@ fn each_failing_read_is_a_fault_of_its_file(rt: HostRuntime) -> Result<(), Fail>
             files.fail_read(FILES[i].0, nth)?;
             let mut out = MemSink::new(alloc);
             let mut err = MemSink::new(alloc);
-            let status = run_words(alloc, PLAN, &mut files, &mut out, &mut err)?;
+            let status = run_words(alloc, "", PLAN, &mut files, &mut out, &mut err)?;
             if status == Status::Done {
                 assert!(rt; nth > 2);
                 break;
@@ -147,7 +157,7 @@ fn each_failing_write_leaves_a_prefix(rt: HostRuntime) -> Result<(), Fail> {
         out.piece(10);
         out.fail_write(nth)?;
         let mut err = MemSink::new(alloc);
-        let status = run_words(alloc, PLAN, &mut files, &mut out, &mut err)?;
+        let status = run_words(alloc, "", PLAN, &mut files, &mut out, &mut err)?;
         if status == Status::Done {
             assert!(rt; nth > 30);
             break;
@@ -162,7 +172,7 @@ fn each_failing_write_leaves_a_prefix(rt: HostRuntime) -> Result<(), Fail> {
 #[test]
 fn tells_what_is_wrong(rt: HostRuntime) -> Result<(), Fail> {
     let alloc = rt.alloc();
-    let rows: [(&str, &str, &[u8], &[u8]); 11] = [
+    let rows: [(&str, &str, &[u8], &[u8]); 15] = [
         (
             "plan base",
             "",
@@ -202,14 +212,38 @@ fn tells_what_is_wrong(rt: HostRuntime) -> Result<(), Fail> {
         (
             PLAN,
             "base.gr",
-            b"p sp 4 5\n",
-            b"refused: GR row 1: count 0\n",
+            b"p sp 4 5\na 2 3 240\na 3 2 240\na 1 4 7200\na 4 1 7200\n",
+            b"refused: GR row 1: count 4\n",
         ),
         (
             PLAN,
             "base.gr",
-            b"p sp 4 1\na 2 3 1000001\n",
+            b"p sp 4 4\na 0 3 240\na 3 2 240\na 1 4 7200\na 4 1 7200\n",
+            b"refused: GR row 2: vertex 0\n",
+        ),
+        (
+            PLAN,
+            "base.gr",
+            b"p sp 4 4\na 2 3 1000001\na 3 2 240\na 1 4 7200\na 4 1 7200\n",
             b"refused: GR row 2: weight 1000001\n",
+        ),
+        (
+            PLAN,
+            "base/calendar.txt",
+            b"service_id,monday,tuesday,wednesday,thursday,friday,saturday,sunday,start_date,end_date\nw,1,0,0,0,0,0,0,20250230,20251231\n",
+            b"refused: calendar.txt row 1: date\n",
+        ),
+        (
+            "plan base gone.gr - 20250303 1000 q.csv",
+            "base/trips.txt",
+            b"trip_id\n",
+            b"refused: trips.txt row 0: no column service_id\n",
+        ),
+        (
+            "plan base gone.gr - 20250303 1000 gone.csv",
+            "",
+            b"",
+            b"no file: GR\n",
         ),
         (
             PLAN,
@@ -226,8 +260,8 @@ fn tells_what_is_wrong(rt: HostRuntime) -> Result<(), Fail> {
         (
             PLAN,
             "q.csv",
-            b"kind,from,to,first,last,trips\nat,stop:X,node:4,07:55:00,,2\n",
-            b"refused: QUERIES row 1: unknown stop\n",
+            b"kind,from,to,first,last,trips\nat,node:1,node:4,07:55:00,,2\nat,node:1,node:4,07:55:00,,2\nat,stop:X,node:4,07:55:00,,2\nat,node:1,node:4,07:55:00,,2\nat,node:1,node:4,07:55:00,,2\n",
+            b"refused: QUERIES row 3: unknown stop\n",
         ),
     ];
     for (words, name, bytes, line) in rows {
@@ -237,10 +271,49 @@ fn tells_what_is_wrong(rt: HostRuntime) -> Result<(), Fail> {
         }
         let mut out = MemSink::new(alloc);
         let mut err = MemSink::new(alloc);
-        let status = run_words(alloc, words, &mut files, &mut out, &mut err)?;
+        let status = run_words(alloc, "", words, &mut files, &mut out, &mut err)?;
         assert_ne!(rt; status, Status::Done);
         assert_eq!(rt; out.taken(), b"".as_slice());
         assert_eq!(rt; err.taken(), line);
     }
+    Ok(())
+}
+
+#[test]
+fn a_file_of_trips_that_fails_or_is_missing(rt: HostRuntime) -> Result<(), Fail> {
+    let alloc = rt.alloc();
+    let mut files = sample(alloc)?;
+    files.fail_read("base/trips.txt", 2)?;
+    let mut out = MemSink::new(alloc);
+    let mut err = MemSink::new(alloc);
+    let status = run_words(alloc, "", PLAN, &mut files, &mut out, &mut err)?;
+    assert_eq!(rt; status, Status::ReadFault(FileKind::Trips));
+    assert_eq!(rt; err.taken(), b"read fault: trips.txt\n".as_slice());
+    let mut files = MemFiles::new(alloc);
+    for (name, bytes) in FILES {
+        if name != "base/trips.txt" {
+            files.put(name, bytes)?;
+        }
+    }
+    let mut err = MemSink::new(alloc);
+    let status = run_words(alloc, "", PLAN, &mut files, &mut out, &mut err)?;
+    assert_eq!(rt; status, Status::NoFile(FileKind::Trips));
+    assert_eq!(rt; err.taken(), b"no file: trips.txt\n".as_slice());
+    assert_eq!(rt; out.taken(), b"".as_slice());
+    Ok(())
+}
+
+#[test]
+fn a_write_that_fails_behind_ten_others(rt: HostRuntime) -> Result<(), Fail> {
+    let alloc = rt.alloc();
+    let mut files = sample(alloc)?;
+    let mut out = MemSink::new(alloc);
+    out.piece(10);
+    out.fail_write(11)?;
+    let mut err = MemSink::new(alloc);
+    let status = run_words(alloc, "", PLAN, &mut files, &mut out, &mut err)?;
+    assert_eq!(rt; status, Status::WriteFault);
+    assert!(rt; out.taken().len() <= 100);
+    assert!(rt; ROWS.starts_with(out.taken()));
     Ok(())
 }

@@ -1,26 +1,53 @@
 // The answers to one query over the sample with other files in place of some of its own.
 use super::*;
 use std::process::Abort;
+use std::rt as system;
 
-// Asserts that a query over the sample with these files in place of its own gives these rows behind the header.
-fn assert_rows<R: Abort>(
-    rt: &R,
+// Puts the sample with other files in place of some of its own, and a query.
+fn put_all<F: Files>(
     alloc: Global,
-    words: &str,
+    root: &str,
+    held: &mut F,
     files: &[(&str, &[u8])],
     query: &[u8],
-    rows: &[u8],
 ) -> Result<(), Fail> {
-    let mut held = sample(alloc)?;
+    for (name, bytes) in FILES {
+        put(alloc, root, held, name, bytes)?;
+    }
     for (name, bytes) in files {
-        held.put(name, bytes)?;
+        put(alloc, root, held, name, bytes)?;
     }
     let mut text = b"kind,from,to,first,last,trips\n".to_vec(alloc)?;
     text.extend_from_slice(query)?;
-    held.put("q.csv", text.as_slice())?;
+    put(alloc, root, held, "q.csv", text.as_slice())
+}
+
+fn put<F: Files>(
+    alloc: Global,
+    root: &str,
+    held: &mut F,
+    name: &str,
+    bytes: &[u8],
+) -> Result<(), Fail> {
+    let mut path = String::from_str(alloc, root)?;
+    path.push_str(name)?;
+    held.begin(path.as_str())?;
+    held.append(path.as_str(), bytes)?;
+    Ok(())
+}
+
+// Asserts that a plan gives these rows behind the header.
+fn assert_plan<F: Files, R: Abort>(
+    rt: &R,
+    alloc: Global,
+    root: &str,
+    words: &str,
+    held: &mut F,
+    rows: &[u8],
+) -> Result<(), Fail> {
     let mut out = MemSink::new(alloc);
     let mut err = MemSink::new(alloc);
-    let status = run_words(alloc, words, &mut held, &mut out, &mut err)?;
+    let status = run_words(alloc, root, words, held, &mut out, &mut err)?;
     assert_eq!(rt; err.taken(), b"".as_slice());
     assert_eq!(rt; status, Status::Done);
     assert!(rt; out.taken().starts_with(HEADER));
@@ -29,15 +56,59 @@ fn assert_rows<R: Abort>(
     Ok(())
 }
 
+fn make_folder<R: system::Files>(
+    rt: &R,
+    alloc: Global,
+    root: &str,
+    folder: &str,
+) -> Result<(), Fail> {
+    let mut path = String::from_str(alloc, root)?;
+    path.push_str(folder)?;
+    fs::create_dir_all(rt, path.as_str())?;
+    Ok(())
+}
+
+// Asserts that a query over the sample with these files in place of its own gives these rows behind the header, over
+// files in memory and over the same files on the disk, in a folder that is made for it.
+fn assert_rows<R: Abort + Alloc + system::Files>(
+    rt: &R,
+    alloc: Global,
+    root: &str,
+    words: &str,
+    files: &[(&str, &[u8])],
+    query: &[u8],
+    rows: &[u8],
+) -> Result<(), Fail> {
+    let mut held = MemFiles::new(alloc);
+    put_all(alloc, root, &mut held, files, query)?;
+    assert_plan(rt, alloc, root, words, &mut held, rows)?;
+
+    let _ = fs::remove_dir_all(rt, root);
+    make_folder(rt, alloc, root, "base")?;
+    make_folder(rt, alloc, root, "hel")?;
+    let mut held = DiskFiles::new(rt);
+    put_all(alloc, root, &mut held, files, query)?;
+    assert_plan(rt, alloc, root, words, &mut held, rows)?;
+    fs::remove_dir_all(rt, root)?;
+    Ok(())
+}
+
+// The folders of the tests.
+const STREETS: &str = "planner_streets/";
+
+const FEEDS: &str = "planner_feeds/";
+
+const AGENCY: &str = "planner_agency/";
+
 const HEADER: &[u8] = b"query,journey,kind,id,from,from_at,to,to_at,start,end,arrive\n";
 
 #[test]
 fn answers_over_streets_and_trips(rt: HostRuntime) -> Result<(), Fail> {
-    let alloc = rt.alloc();
     // The sample.
     assert_rows(
         &rt,
-        alloc,
+        rt.alloc(),
+        STREETS,
         PLAN,
         &[],
         b"at,node:1,node:4,07:55:00,,2",
@@ -46,7 +117,8 @@ fn answers_over_streets_and_trips(rt: HostRuntime) -> Result<(), Fail> {
     // One trip at most.
     assert_rows(
         &rt,
-        alloc,
+        rt.alloc(),
+        STREETS,
         PLAN,
         &[],
         b"at,node:1,node:4,07:55:00,,1",
@@ -55,7 +127,8 @@ fn answers_over_streets_and_trips(rt: HostRuntime) -> Result<(), Fail> {
     // A walk that ends when the trip departs.
     assert_rows(
         &rt,
-        alloc,
+        rt.alloc(),
+        STREETS,
         PLAN,
         &[(
             "base.gr",
@@ -67,7 +140,8 @@ fn answers_over_streets_and_trips(rt: HostRuntime) -> Result<(), Fail> {
     // A walk of one second too many.
     assert_rows(
         &rt,
-        alloc,
+        rt.alloc(),
+        STREETS,
         PLAN,
         &[(
             "base.gr",
@@ -79,7 +153,8 @@ fn answers_over_streets_and_trips(rt: HostRuntime) -> Result<(), Fail> {
     // From a vertex to itself.
     assert_rows(
         &rt,
-        alloc,
+        rt.alloc(),
+        STREETS,
         PLAN,
         &[],
         b"at,node:1,node:1,07:55:00,,2",
@@ -88,7 +163,8 @@ fn answers_over_streets_and_trips(rt: HostRuntime) -> Result<(), Fail> {
     // No journey.
     assert_rows(
         &rt,
-        alloc,
+        rt.alloc(),
+        STREETS,
         PLAN,
         &[],
         b"at,stop:B,stop:A,08:12:00,,2",
@@ -97,7 +173,8 @@ fn answers_over_streets_and_trips(rt: HostRuntime) -> Result<(), Fail> {
     // A trip caught exactly.
     assert_rows(
         &rt,
-        alloc,
+        rt.alloc(),
+        STREETS,
         PLAN,
         &[],
         b"at,stop:B,stop:A,08:11:00,,2",
@@ -106,7 +183,8 @@ fn answers_over_streets_and_trips(rt: HostRuntime) -> Result<(), Fail> {
     // A trip missed by a second.
     assert_rows(
         &rt,
-        alloc,
+        rt.alloc(),
+        STREETS,
         PLAN,
         &[],
         b"at,node:1,node:4,08:00:01,,2",
@@ -115,7 +193,8 @@ fn answers_over_streets_and_trips(rt: HostRuntime) -> Result<(), Fail> {
     // Two stops at one vertex.
     assert_rows(
         &rt,
-        alloc,
+        rt.alloc(),
+        STREETS,
         PLAN,
         &[("base/stop_nodes.txt", b"stop_id,node\nA,1\nB,2\nC,2\nD,4\n")],
         b"at,node:1,node:4,07:55:00,,2",
@@ -124,7 +203,8 @@ fn answers_over_streets_and_trips(rt: HostRuntime) -> Result<(), Fail> {
     // An overtaking trip.
     assert_rows(
         &rt,
-        alloc,
+        rt.alloc(),
+        STREETS,
         PLAN,
         &[
             ("base/trips.txt", b"service_id,trip_id\nw,t1\nw,t2\nw,t3\n"),
@@ -143,7 +223,8 @@ fn answers_over_streets_and_trips(rt: HostRuntime) -> Result<(), Fail> {
     // A trip without a change.
     assert_rows(
         &rt,
-        alloc,
+        rt.alloc(),
+        STREETS,
         PLAN,
         &[
             ("base/trips.txt", b"service_id,trip_id\nw,t1\nw,t2\nw,t4\n"),
@@ -160,11 +241,11 @@ fn answers_over_streets_and_trips(rt: HostRuntime) -> Result<(), Fail> {
 
 #[test]
 fn answers_over_feeds(rt: HostRuntime) -> Result<(), Fail> {
-    let alloc = rt.alloc();
     // Marks, carriage returns, quotes, another order, times left out.
     assert_rows(
         &rt,
-        alloc,
+        rt.alloc(),
+        FEEDS,
         PLAN,
         &[
             ("base/trips.txt", b"service_id,trip_id\nw,t9\n"),
@@ -179,7 +260,8 @@ fn answers_over_feeds(rt: HostRuntime) -> Result<(), Fail> {
     // An added date.
     assert_rows(
         &rt,
-        alloc,
+        rt.alloc(),
+        FEEDS,
         PLAN,
         &[(
             "base/calendar.txt",
@@ -191,7 +273,8 @@ fn answers_over_feeds(rt: HostRuntime) -> Result<(), Fail> {
     // A removed date.
     assert_rows(
         &rt,
-        alloc,
+        rt.alloc(),
+        FEEDS,
         PLAN,
         &[
             (
@@ -209,7 +292,8 @@ fn answers_over_feeds(rt: HostRuntime) -> Result<(), Fail> {
     // No trips at all.
     assert_rows(
         &rt,
-        alloc,
+        rt.alloc(),
+        FEEDS,
         PLAN,
         &[
             ("base/stops.txt", b"stop_id\n"),
@@ -230,7 +314,8 @@ fn answers_over_feeds(rt: HostRuntime) -> Result<(), Fail> {
     // The second copy of a trip.
     assert_rows(
         &rt,
-        alloc,
+        rt.alloc(),
+        FEEDS,
         PLAN,
         &[
             ("base/trips.txt", b"service_id,trip_id\nw,f\n"),
@@ -249,7 +334,8 @@ fn answers_over_feeds(rt: HostRuntime) -> Result<(), Fail> {
     // No copy at the end.
     assert_rows(
         &rt,
-        alloc,
+        rt.alloc(),
+        FEEDS,
         PLAN,
         &[
             ("base/trips.txt", b"service_id,trip_id\nw,f\n"),
@@ -268,7 +354,8 @@ fn answers_over_feeds(rt: HostRuntime) -> Result<(), Fail> {
     // A trip of the day before.
     assert_rows(
         &rt,
-        alloc,
+        rt.alloc(),
+        FEEDS,
         PLAN,
         &[
             (
@@ -287,7 +374,8 @@ fn answers_over_feeds(rt: HostRuntime) -> Result<(), Fail> {
     // A call that stands over midnight.
     assert_rows(
         &rt,
-        alloc,
+        rt.alloc(),
+        FEEDS,
         PLAN,
         &[
             (
@@ -306,7 +394,8 @@ fn answers_over_feeds(rt: HostRuntime) -> Result<(), Fail> {
     // The same with a buffer that is too long.
     assert_rows(
         &rt,
-        alloc,
+        rt.alloc(),
+        FEEDS,
         "plan base base.gr - 20250303 1000 q.csv 31",
         &[
             (
@@ -325,7 +414,8 @@ fn answers_over_feeds(rt: HostRuntime) -> Result<(), Fail> {
     // A buffer that is just kept.
     assert_rows(
         &rt,
-        alloc,
+        rt.alloc(),
+        FEEDS,
         "plan base base.gr - 20250303 1000 q.csv 60",
         &[],
         b"at,node:1,node:4,07:55:00,,2",
@@ -334,7 +424,8 @@ fn answers_over_feeds(rt: HostRuntime) -> Result<(), Fail> {
     // A buffer of one second more.
     assert_rows(
         &rt,
-        alloc,
+        rt.alloc(),
+        FEEDS,
         "plan base base.gr - 20250303 1000 q.csv 61",
         &[],
         b"at,node:1,node:4,07:55:00,,2",
@@ -348,6 +439,7 @@ fn answers_over_a_feed_of_an_agency(rt: HostRuntime) -> Result<(), Fail> {
     assert_rows(
         &rt,
         rt.alloc(),
+        AGENCY,
         "plan hel hel.gr hel.co 20250303 500 q.csv",
         &[
             ("hel/agency.txt", b"agency_name\nHel\n"),

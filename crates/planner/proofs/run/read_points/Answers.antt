@@ -1,4 +1,19 @@
+use Rattle.std.proofs.Common.{refl, rules}
+use Rattle.std.proofs.lemmas.Result.{err_from_is_err_and}
+use Rattle.planner.specs.Words.{told}
+use Rattle.planner.specs.Input.{held}
+use Rattle.planner.proofs.RejectLemmas.{points_file, points_rule}
 use Rattle.planner.proofs.run.read_points.Goals as goal
 
 pub returns-in-Err-clause-cause : goal.returns-in-Err-clause-cause
-returns-in-Err-clause-cause g c = c.status_of.ensures _ _ _ _ _
+returns-in-Err-clause-cause g c = c.status_of.ensures.cause _ _ _ _ _
+
+pub returns-in_err-bytes-clause-rejected : goal.returns-in_err-bytes-clause-rejected
+returns-in_err-bytes-clause-rejected g c =
+    let p = err_from_is_err_and c.from_residual.result c.from_residual.ensures.1 in
+    rw (p.1, p.2) (λ tells. points_file (told c.args.plan.now) (held (told c.args.plan.now) (g.F.Files.holds c.args.files.now)) c.args.nodes c.in_err-bytes.field-0.0 (search rules) (c.in_err-bytes.ensures.rejected tells refl))
+
+pub returns-in-Err-clause-rejected : goal.returns-in-Err-clause-rejected
+returns-in-Err-clause-rejected g c = λ tells.
+    rw c.status_of.ensures.value (points_rule (told c.args.plan.now) (held (told c.args.plan.now) (g.F.Files.holds c.args.files.now)) c.args.nodes c.deref.result.now c.in-Err.stopped (search rules)
+    (record { stands = search rules; short = search rules }) c.in-Err.ensures.refused)
