@@ -21,17 +21,40 @@ fn base() -> FeedBytes<'static> {
 }
 
 // The base with another text of one file.
-fn changed(file: FileKind, text: &'static [u8]) -> FeedBytes<'static> {
-    let mut bytes = base();
-    match file {
-        FileKind::Stops => bytes.stops = text,
-        FileKind::Calendar => bytes.calendar = Some(text),
-        FileKind::CalendarDates => bytes.dates = Some(text),
-        FileKind::Trips => bytes.trips = text,
-        FileKind::StopTimes => bytes.stop_times = text,
-        _ => bytes.frequencies = Some(text),
+fn changed(file: FileKind, text: &[u8]) -> FeedBytes<'_> {
+    let base = base();
+    FeedBytes {
+        stops: if file == FileKind::Stops {
+            text
+        } else {
+            base.stops
+        },
+        calendar: if file == FileKind::Calendar {
+            Some(text)
+        } else {
+            base.calendar
+        },
+        dates: if file == FileKind::CalendarDates {
+            Some(text)
+        } else {
+            base.dates
+        },
+        trips: if file == FileKind::Trips {
+            text
+        } else {
+            base.trips
+        },
+        stop_times: if file == FileKind::StopTimes {
+            text
+        } else {
+            base.stop_times
+        },
+        frequencies: if file == FileKind::Frequencies {
+            Some(text)
+        } else {
+            base.frequencies
+        },
     }
-    bytes
 }
 
 fn refusal(alloc: Global, bytes: &FeedBytes) -> Option<Refusal> {
@@ -264,6 +287,18 @@ fn refuses(rt: HostRuntime) {
             cause: Cause::TimeFalls,
         },
         Refused {
+            file: FileKind::StopTimes,
+            text: b"trip_id,arrival_time,departure_time,stop_id,stop_sequence\nt1,,,A,1\nt1,08:10:00,08:10:00,B,2\nt2,08:15:00,08:15:00,C,1\nt2,08:30:00,08:30:00,D,2\n",
+            row: 1,
+            cause: Cause::NoTime,
+        },
+        Refused {
+            file: FileKind::StopTimes,
+            text: b"trip_id,arrival_time,departure_time,stop_id,stop_sequence\nt1,08:00:00,08:00:00,A,1\nt1,07:59:59,07:59:59,B,2\nt2,08:15:00,08:15:00,C,1\nt2,08:30:00,08:30:00,D,2\n",
+            row: 2,
+            cause: Cause::TimeFalls,
+        },
+        Refused {
             file: FileKind::Frequencies,
             text: b"trip_id,start_time,end_time,headway_secs\n,8:00:00,9:00:00,60\n",
             row: 1,
@@ -437,6 +472,67 @@ fn refuses_too_many_stops(rt: HostRuntime) -> Result<(), Fail> {
         cause: Cause::Limit(200_001),
     };
     assert_eq!(rt; found, Some(limit));
+    Ok(())
+}
+
+// The refusal of a file of 50,000,001 rows.
+fn refusal_of_many_rows(
+    alloc: Global,
+    file: FileKind,
+    header: &str,
+) -> Result<Option<Refusal>, Fail> {
+    let mut rows = String::new(alloc);
+    for _i in 0..50_000 {
+        rows.push_str("a\n")?;
+    }
+    let mut text = String::from_str(alloc, header)?;
+    for _i in 0..1_000 {
+        text.push_str(&rows)?;
+    }
+    text.push_str("a")?;
+    Ok(refusal(alloc, &changed(file, text.as_bytes())))
+}
+
+fn limit_of_rows(file: FileKind) -> Option<Refusal> {
+    Some(Refusal {
+        file,
+        row: 0,
+        cause: Cause::Limit(50_000_001),
+    })
+}
+
+// The limit on the rows of a file is told before any rule on a row.
+#[test]
+fn refuses_too_many_rows_of_stops_and_days(rt: HostRuntime) -> Result<(), Fail> {
+    let headers = [
+        (FileKind::Stops, "stop_id\n"),
+        (
+            FileKind::Calendar,
+            "service_id,monday,tuesday,wednesday,thursday,friday,saturday,sunday,start_date,end_date\n",
+        ),
+        (FileKind::CalendarDates, "service_id,date,exception_type\n"),
+    ];
+    for (file, header) in headers {
+        let found = refusal_of_many_rows(rt.alloc(), file, header)?;
+        assert_eq!(rt; found, limit_of_rows(file));
+    }
+    Ok(())
+}
+
+#[test]
+fn refuses_too_many_rows_of_trips(rt: HostRuntime) -> Result<(), Fail> {
+    let headers = [
+        (FileKind::Trips, "service_id,trip_id\n"),
+        (FileKind::StopTimes, "trip_id,stop_id,stop_sequence\n"),
+        (
+            FileKind::Frequencies,
+            "trip_id,start_time,end_time,headway_secs\n",
+        ),
+    ];
+    for (file, header) in headers {
+        let found = refusal_of_many_rows(rt.alloc(), file, header)?;
+        assert_eq!(rt; found, limit_of_rows(file));
+    }
     Ok(())
 }
 
