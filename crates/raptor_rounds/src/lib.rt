@@ -22,8 +22,6 @@ mod scan;
 mod sparse_row;
 mod sparse_set;
 mod starts;
-#[cfg(test)]
-mod tests;
 mod turns;
 
 pub use rounds::Rounds;
