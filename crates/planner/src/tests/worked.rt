@@ -1,7 +1,7 @@
 // The answers to one query over the sample with other files in place of some of its own.
 use super::*;
 use std::process::Abort;
-use std::rt as system;
+use std::rt::Files as SystemFiles;
 
 // Puts the sample with other files in place of some of its own, and a query.
 fn put_all<F: Files>(
@@ -56,7 +56,7 @@ fn assert_plan<F: Files, R: Abort>(
     Ok(())
 }
 
-fn make_folder<R: system::Files>(
+fn make_folder<R: SystemFiles>(
     rt: &R,
     alloc: Global,
     root: &str,
@@ -70,7 +70,7 @@ fn make_folder<R: system::Files>(
 
 // Asserts that a query over the sample with these files in place of its own gives these rows behind the header, over
 // files in memory and over the same files on the disk, in a folder that is made for it.
-fn assert_rows<R: Abort + Alloc + system::Files>(
+fn assert_rows<R: Abort + Alloc + SystemFiles>(
     rt: &R,
     alloc: Global,
     root: &str,
