@@ -1,0 +1,6 @@
+pub mod RowLemmas
+pub mod SearchLaws
+pub mod HalfLaws
+pub mod LabelLaws
+pub mod MeetLaws
+pub mod UnfoldLaws

@@ -1,0 +1,9 @@
+pub mod Hierarchy
+pub mod Working
+pub mod Rows
+pub mod Labels
+pub mod Stored
+pub mod Idle
+pub mod Search
+pub mod Meeting
+pub mod Unfolding
