@@ -1,0 +1,64 @@
+// Least sums of seconds from one vertex, along rows that lead to greater ranks.
+ghost use Rattle.std.specs.Prelude.{◌≡◌, ◌+◌, ◌≤◌, ◌<◌, ◌-◌, ◌^◌, ℕ, length, replicate, None};
+ghost use Rattle.walk_queue.specs.Keys.{key_at};
+ghost use Rattle.walk_hierarchy.specs.declared.labels.Label.{Label};
+ghost use Rattle.walk_hierarchy.specs.Labels.{HasLabel, IsLeastFrom};
+ghost use Rattle.walk_hierarchy.specs.Search.{HasHalf, Climbs, Waits, IsGoing, IsSearch, work_left, labels_with, queue_with, row_of};
+
+use crate::labels::{Label, Labels};
+use crate::rows::Rows;
+use move_model::NodeNo;
+use walk_queue::MinQueue;
+
+// Writes a label that is less than the vertex has, and lets the vertex wait.
+#[inline]
+fn mark(labels: &mut Labels, queue: &mut MinQueue<u64>, at: NodeNo, label: Label)
+    requires exists { at.0 < length labels.old }
+    requires room { length queue.old ≡ length labels.old }
+    requires short { label.seconds < 2 ^ 64 - 1 }
+    requires waits { (s : ℕ) → Waits queue.old at.0 s → (x : Label) × (HasLabel labels.old at.0 x × (x.seconds ≡ s)) }
+    ensures labels { labels.new ≡ labels_with labels.old at.0 label }
+    ensures queue { queue.new ≡ queue_with labels.old queue.old at.0 label }
+{
+    if labels.lower(at, label) {
+        queue.put_or_lower(at.0, label.seconds);
+    }
+}
+
+// Goes along the arcs of a vertex that no longer waits.
+#[inline]
+fn leave(rows: &Rows, at: NodeNo, seconds: u64, labels: &mut Labels, queue: &mut MinQueue<u64>)
+    requires climbs { Climbs rows.now (length labels.old) }
+    requires going { (from : ℕ) × IsGoing rows.now from at.0 seconds 0 labels.old queue.old }
+    ensures search { (from : ℕ) → IsGoing rows.now from at.0 seconds 0 labels.old queue.old → IsSearch rows.now from labels.new queue.new }
+    ensures less { work_left labels.new queue.new ≤ work_left labels.old queue.old }
+    ensures many { length labels.new ≡ length labels.old }
+{
+    for half in rows.row(at) {
+        let label = Label {
+            seconds: seconds + half.seconds,
+            parent: at,
+        };
+        mark(labels, queue, half.to, label);
+    }
+}
+
+// Labels each vertex to which the rows lead with its least seconds.
+pub(crate) fn search(rows: &Rows, from: NodeNo, labels: &mut Labels, queue: &mut MinQueue<u64>)
+    requires climbs { Climbs rows.now (length labels.old) }
+    requires from { from.0 < length labels.old }
+    requires labels { labels.old ≡ replicate (length labels.old) None }
+    requires queue { queue.old ≡ replicate (length labels.old) None }
+    ensures least { IsLeastFrom (HasHalf rows.now) from.0 labels.new }
+    ensures queue { queue.new ≡ queue.old }
+    ensures many { length labels.new ≡ length labels.old }
+{
+    let start = Label {
+        seconds: 0,
+        parent: from,
+    };
+    mark(labels, queue, from, start);
+    'vertices: while let Some((at, seconds)) = queue.take_least() {
+        leave(rows, NodeNo(at), seconds, labels, queue);
+    }
+}

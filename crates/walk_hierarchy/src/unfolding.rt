@@ -1,0 +1,197 @@
+// Walks along the streets that the arcs of a hierarchy stand for.
+ghost use Rattle.std.specs.Prelude.{◌≡◌, ◌≢◌, ◌+◌, ◌-◌, ◌<◌, ◌≤◌, ◌↔◌, ◌⊎◌, ℕ, [], ◌∷◌, length, Contains, All, OnOk, IfOk, IfSome, IsNone, Option};
+ghost use Rattle.move_model.specs.Streets.{Streets};
+ghost use Rattle.walk_hierarchy.specs.declared.labels.Label.{Label};
+ghost use Rattle.walk_hierarchy.specs.Labels.{HasLabel, IsLeastFrom};
+ghost use Rattle.walk_hierarchy.specs.Hierarchy.{IsNode, HasArc, IsHierarchy, IsOver, IsUpDownSum, GivesDistances, IsWayOver, IsShortestWalk};
+ghost use Rattle.walk_hierarchy.specs.Meeting.{IsArcBack, IsBestOfAll};
+ghost use Rattle.walk_hierarchy.specs.Unfolding.{IsArcOf, IsStack, IsUnfolding};
+
+use crate::arcs::UpDown;
+use crate::hierarchy::Hierarchy;
+use crate::labels::Labels;
+use crate::meeting::{Meeting, meet};
+use crate::work::Work;
+use move_model::{NoMemory, NodeNo, Walk};
+use std::alloc::Global;
+use std::sync::ledger::Ledger;
+use steps::Steps;
+
+// The two arcs that an added arc stands for.
+fn parts(hierarchy: &Hierarchy, arc: UpDown) -> (UpDown, UpDown)
+    requires rules { IsHierarchy hierarchy.now }
+    requires arc { IsArcOf hierarchy.now arc }
+    requires added { arc.middle.0 ≢ 0 }
+    ensures first { Contains hierarchy.now.down result.0 }
+    ensures second { Contains hierarchy.now.up result.1 }
+    ensures from { result.0.from ≡ arc.from }
+    ensures first_to { result.0.to ≡ arc.middle }
+    ensures second_from { result.1.from ≡ arc.middle }
+    ensures to { result.1.to ≡ arc.to }
+    ensures total { result.0.seconds + result.1.seconds ≡ arc.seconds }
+{
+    (
+        hierarchy.arc_down(arc.from, arc.middle),
+        hierarchy.arc_up(arc.middle, arc.to),
+    )
+}
+
+// Goes on along the streets of the arcs of a stack, from the last arc to the first.
+fn unfold(hierarchy: &Hierarchy, stack: &mut Vec<UpDown>, walk: &mut Walk) -> Result<(), NoMemory>
+    requires rules { IsHierarchy hierarchy.now }
+    requires arcs { All (IsArcOf hierarchy.now) stack.old.items }
+    ensures walks { OnOk result ((graph : Streets) (a b : NodeNo) (total : ℕ) → IsOver graph hierarchy.now
+        → IsUnfolding graph a b total stack.old.items walk.old → IsUnfolding graph a b total [] walk.new) }
+    ensures empty { OnOk result (stack.new.items ≡ []) }
+{
+    'arcs: while let Some(arc) = stack.pop() {
+        if arc.middle.0 == 0 {
+            walk.push(arc.to)?;
+        } else {
+            let (first, second) = parts(hierarchy, arc);
+            stack.push(second)?;
+            stack.push(first)?;
+        }
+    }
+    Ok(())
+}
+
+// Stacks the arcs up that lead to a vertex, the first of them last.
+fn climb(
+    hierarchy: &Hierarchy,
+    from: NodeNo,
+    top: NodeNo,
+    labels: &Labels,
+    stack: &mut Vec<UpDown>,
+) -> Result<(), NoMemory>
+    requires rules { IsHierarchy hierarchy.now }
+    requires labels { IsLeastFrom (HasArc hierarchy.now.up) from.0 labels.now }
+    requires top { (x : Label) × HasLabel labels.now top.0 x }
+    requires empty { stack.old.items ≡ [] }
+    ensures arcs { OnOk result (All (IsArcOf hierarchy.now) stack.new.items) }
+    ensures stacked { OnOk result ((x : Label) → HasLabel labels.now top.0 x → IsStack stack.new.items from top x.seconds) }
+{
+    let mut at = top;
+    'back: while at.0 != from.0 {
+        let parent = labels.label(at).parent;
+        stack.push(hierarchy.arc_up(parent, at))?;
+        at = parent;
+    }
+    Ok(())
+}
+
+// Goes on along the streets of the arcs down that lead from a vertex.
+fn fall(
+    hierarchy: &Hierarchy,
+    top: NodeNo,
+    to: NodeNo,
+    labels: &Labels,
+    stack: &mut Vec<UpDown>,
+    walk: &mut Walk,
+) -> Result<(), NoMemory>
+    requires rules { IsHierarchy hierarchy.now }
+    requires labels { IsLeastFrom (IsArcBack hierarchy.now.down) to.0 labels.now }
+    requires top { (x : Label) × HasLabel labels.now top.0 x }
+    requires empty { stack.old.items ≡ [] }
+    ensures walks { OnOk result ((graph : Streets) (a : NodeNo) (m : ℕ) (x : Label) → IsOver graph hierarchy.now → HasLabel labels.now top.0 x
+        → IsUnfolding graph a top m [] walk.old → IsUnfolding graph a to (m + x.seconds) [] walk.new) }
+{
+    let mut at = top;
+    'on: while at.0 != to.0 {
+        let parent = labels.label(at).parent;
+        stack.push(hierarchy.arc_down(at, parent))?;
+        unfold(hierarchy, stack, walk)?;
+        at = parent;
+    }
+    Ok(())
+}
+
+// The walk by way of a vertex at which both searches met.
+fn walk_by(
+    alloc: Global,
+    hierarchy: &Hierarchy,
+    a: NodeNo,
+    b: NodeNo,
+    top: NodeNo,
+    up: &Labels,
+    down: &Labels,
+) -> Result<Walk, NoMemory>
+    requires rules { IsHierarchy hierarchy.now }
+    requires a { IsNode hierarchy.now a }
+    requires up { IsLeastFrom (HasArc hierarchy.now.up) a.0 up.now }
+    requires down { IsLeastFrom (IsArcBack hierarchy.now.down) b.0 down.now }
+    requires there { (x : Label) × HasLabel up.now top.0 x }
+    requires back { (x : Label) × HasLabel down.now top.0 x }
+    ensures { IfOk result (λ walk. (graph : Streets) (x y : Label) → IsOver graph hierarchy.now → HasLabel up.now top.0 x → HasLabel down.now top.0 y
+        → IsUnfolding graph a b (x.seconds + y.seconds) [] walk) }
+{
+    let mut walk = Walk::new(alloc);
+    walk.push(a)?;
+    let mut stack = Vec::new(alloc);
+    climb(hierarchy, a, top, up, &mut stack)?;
+    unfold(hierarchy, &mut stack, &mut walk)?;
+    fall(hierarchy, top, b, down, &mut stack, &mut walk)?;
+    Ok(walk)
+}
+
+// The walk by way of the vertex where the searches met, if they did.
+fn walk_of(
+    alloc: Global,
+    hierarchy: &Hierarchy,
+    a: NodeNo,
+    b: NodeNo,
+    meeting: Option<Meeting>,
+    up: &Labels,
+    down: &Labels,
+) -> Result<Option<Walk>, NoMemory>
+    requires rules { IsHierarchy hierarchy.now }
+    requires a { IsNode hierarchy.now a }
+    requires b { IsNode hierarchy.now b }
+    requires up { IsLeastFrom (HasArc hierarchy.now.up) a.0 up.now }
+    requires down { IsLeastFrom (IsArcBack hierarchy.now.down) b.0 down.now }
+    requires best { IsBestOfAll up.now down.now meeting }
+    ensures none { IfOk result (λ walk. IsNone walk ↔ ((m : ℕ) → IsUpDownSum hierarchy.now a b m → ⊥)) }
+    ensures walks { IfOk result (λ found. IfSome found (λ walk. (graph : Streets) → IsOver graph hierarchy.now → IsWayOver graph hierarchy.now a b walk)) }
+    ensures shortest { IfOk result (λ found. IfSome found (λ walk. (graph : Streets) → IsOver graph hierarchy.now → GivesDistances graph hierarchy.now → IsShortestWalk graph a b walk)) }
+{
+    let Some(meeting) = meeting else {
+        return Ok(None);
+    };
+    let walk = walk_by(alloc, hierarchy, a, b, meeting.node, up, down)?;
+    Ok(Some(walk))
+}
+
+/// A walk along streets that has the least seconds of arcs up from one vertex and then arcs down to the other, or None
+/// where no such arcs lead there. For a hierarchy that keeps the distances of its streets, it has those of the distance.
+pub fn path<L: Ledger>(
+    alloc: Global,
+    hierarchy: &Hierarchy,
+    a: NodeNo,
+    b: NodeNo,
+    work: &mut Work,
+    searches: &mut Steps<L>,
+) -> Result<Option<Walk>, NoMemory>
+    requires a_exists { IsNode hierarchy.now a }
+    requires b_exists { IsNode hierarchy.now b }
+    requires fits { work.old.nodes ≡ length hierarchy.now.ranks }
+    ensures none { IfOk result (λ walk. IsNone walk ↔ ((m : ℕ) → IsUpDownSum hierarchy.now a b m → ⊥)) }
+    ensures walks { IfOk result (λ found. IfSome found (λ walk. (graph : Streets) → IsOver graph hierarchy.now → IsWayOver graph hierarchy.now a b walk)) }
+    ensures shortest { IfOk result (λ found. IfSome found (λ walk. (graph : Streets) → IsOver graph hierarchy.now → GivesDistances graph hierarchy.now → IsShortestWalk graph a b walk)) }
+    ensures work { work.new ≡ record { nodes = work.old.nodes; settled = [] } }
+    ensures ticks { searches.new ≡ searches.old + 1 }
+{
+    searches.tick();
+    let meeting = meet(
+        hierarchy,
+        a,
+        b,
+        &mut work.up,
+        &mut work.down,
+        &mut work.queue,
+    );
+    let found = walk_of(alloc, hierarchy, a, b, meeting, &work.up, &work.down);
+    work.up.clear();
+    work.down.clear();
+    work.settled.clear();
+    found
+}

@@ -1,4 +1,0 @@
-use Rattle.walk_order.proofs.hierarchy.Hierarchy.descents.Goals as goal
-
-pub returns : goal.returns
-returns c = (c.self.inside.ascents, rw (← c.self.view_is) c.self.invariant)
