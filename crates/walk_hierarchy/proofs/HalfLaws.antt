@@ -1,5 +1,5 @@
 -- The halves of a row, and the arcs that they are halves of.
-use Rattle.std.proofs.Common.{◌≡◌, ◌≢◌, ◌∙◌, ◌+◌, ◌-◌, ◌*◌, ◌<◌, ◌≤◌, ◌⊎◌, ℕ, zero, suc, Bool, true, false, cond, List, [], ◌∷◌, length, get_or, slice_index_or, map, refl, sym, ap, subst, inl, inr, arith}
+use Rattle.std.proofs.Common.{◌≡◌, ◌≢◌, ◌∙◌, ◌+◌, ◌-◌, ◌<◌, ◌≤◌, ◌⊎◌, ℕ, zero, suc, Bool, true, false, cond, List, [], ◌∷◌, length, slice_index_or, map, refl, sym, ap, subst, inl, inr, arith}
 use Rattle.std.specs.Prelude.{◌==◌, filter, All, Contains, slice_index}
 use Rattle.std.proofs.lemmas.Bool.{cases_lt}
 use Rattle.std.proofs.lemmas.Bool.Decides.{nat_tests}
@@ -12,8 +12,8 @@ use Rattle.walk_hierarchy.specs.declared.rows.Half.{Half}
 use Rattle.walk_hierarchy.specs.declared.rows.Side.{Side}
 use Rattle.walk_hierarchy.specs.declared.rows.Side.TheVariants.{Out, Into}
 use Rattle.walk_hierarchy.specs.declared.rows.Rows.{Rows}
-use Rattle.walk_hierarchy.specs.Rows.{vertex_of, half_of, halves, IsRow, IsRows}
-use Rattle.walk_hierarchy.specs.Hierarchy.{Parts, IsNode, rank_of, HasArc, IsArcUp, IsArcDown, IsHierarchy}
+use Rattle.walk_hierarchy.specs.Rows.{vertex_of, half_of, halves, IsRows}
+use Rattle.walk_hierarchy.specs.Hierarchy.{Parts, HasArc, IsArcUp, IsArcDown, IsHierarchy}
 use Rattle.walk_hierarchy.specs.Stored.{IsStored}
 use Rattle.walk_hierarchy.specs.Search.{row_of, HasHalf, Climbs}
 use Rattle.walk_hierarchy.specs.Meeting.{IsArcBack}

@@ -4,3 +4,4 @@ pub mod HalfLaws
 pub mod LabelLaws
 pub mod MeetLaws
 pub mod UnfoldLaws
+pub mod SampleRules

@@ -1,18 +1,16 @@
 -- Where a search up and a search down meet.
-use Rattle.std.proofs.Common.{◌≡◌, ◌≢◌, ◌∙◌, ℕ, ◌+◌, ◌<◌, ◌≤◌, ◌⊎◌, List, [], ◌∷◌, ◌++◌, length, Option, Some, None, option_map, refl, sym, ap, subst, inl, inr, arith}
-use Rattle.std.specs.Prelude.{Contains, ◌↔◌}
-use Rattle.std.proofs.lemmas.List.Elements.{Contains-push_cases, Contains-append_left, Contains-push}
+use Rattle.std.proofs.Common.{◌≡◌, ◌∙◌, ℕ, ◌+◌, ◌≤◌, List, [], ◌∷◌, ◌++◌, Option, Some, None, option_map, refl, sym, ap, subst, inl, inr, arith}
+use Rattle.std.specs.Prelude.{Contains}
+use Rattle.std.proofs.lemmas.List.Elements.{Contains-push_cases, Contains-append_left}
 use Rattle.move_model.specs.declared.network.NodeNo.{NodeNo}
-use Rattle.move_model.specs.Streets.{Streets, IsVertex, HasDistance}
-use Rattle.walk_queue.specs.Keys.{key_at}
+use Rattle.move_model.specs.Streets.{Streets, HasDistance}
 use Rattle.walk_hierarchy.specs.declared.labels.Label.{Label}
 use Rattle.walk_hierarchy.specs.declared.settled.Settled.{Settled}
 use Rattle.walk_hierarchy.specs.declared.meeting.Meeting.{Meeting}
 use Rattle.walk_laws.specs.Sums.{IsSum, IsLeast, HasLeast}
-use Rattle.walk_laws.specs.Sums.IsSum.{none, more}
-use Rattle.walk_hierarchy.specs.Hierarchy.{Parts, IsNode, HasArc, IsUpSum, IsDownSum, IsUpDownSum, GivesDistances, AreSettled}
-use Rattle.walk_hierarchy.specs.Labels.{HasLabel, HasWithin, IsVia, IsLeastFrom, Meets, AreListed}
-use Rattle.walk_hierarchy.specs.Meeting.{IsArcBack, IsBestOf, HasBestOf, IsBest, IsBestOfAll}
+use Rattle.walk_hierarchy.specs.Hierarchy.{Parts, IsNode, HasArc, IsDownSum, IsUpDownSum, GivesDistances, AreSettled}
+use Rattle.walk_hierarchy.specs.Labels.{HasLabel, IsLeastFrom, Meets, AreListed}
+use Rattle.walk_hierarchy.specs.Meeting.{IsArcBack, HasBestOf, IsBest, IsBestOfAll}
 use Rattle.walk_laws.proofs.SumLemmas.{IsSum-join, IsSum-one, IsSum-reverse}
 
 label_same : (labels : List (Option Label)) (v : ℕ) (x y : Label) → HasLabel labels v x → HasLabel labels v y → x ≡ y

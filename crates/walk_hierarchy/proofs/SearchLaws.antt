@@ -1,7 +1,6 @@
 -- The steps of a search, and what it leaves.
-use Rattle.std.proofs.Common.{◌≡◌, ◌≢◌, ℕ, ◌+◌, ◌*◌, ◌<◌, ◌≤◌, ◌⊎◌, Bool, true, false, cond, List, [], length, slice_index_or, slice_set, replicate, Option, Some, None, arith, refl, sym, ap, subst, inl, inr, ◌∙◌}
-use Rattle.std.specs.Prelude.{Contains, nat_lt}
-use Rattle.std.specs.List.{sum_by}
+use Rattle.std.proofs.Common.{◌≡◌, ◌≢◌, ℕ, ◌+◌, ◌*◌, ◌<◌, ◌≤◌, ◌⊎◌, Bool, true, false, cond, List, length, slice_index_or, slice_set, replicate, Option, Some, None, arith, refl, sym, ap, subst, inl, inr, ◌∙◌}
+use Rattle.std.specs.Prelude.{nat_lt}
 use Rattle.std.proofs.lemmas.Bool.{cases_eq, cases_lt}
 use Rattle.std.proofs.lemmas.Bool.Decides.{nat_tests}
 use Rattle.std.proofs.lemmas.List.{get_or_default, get_or_past, get_or-set_same, get_or-set_other, get_or-replicate, length-set, length-replicate, same_lists}
@@ -12,7 +11,7 @@ use Rattle.walk_queue.specs.Keys.{key_at, IsEmpty}
 use Rattle.walk_hierarchy.specs.declared.labels.Label.{Label}
 use Rattle.walk_hierarchy.specs.declared.rows.Half.{Half}
 use Rattle.walk_hierarchy.specs.declared.rows.Rows.{Rows}
-use Rattle.walk_laws.specs.Sums.{IsSum, IsLeast, longest}
+use Rattle.walk_laws.specs.Sums.{IsSum, longest}
 use Rattle.walk_laws.specs.Sums.IsSum.{none, more}
 use Rattle.walk_hierarchy.specs.Labels.{HasLabel, HasWithin, IsVia, IsLeastFrom, lowers}
 use Rattle.walk_hierarchy.specs.Search.{row_of, HasHalf, Climbs, Waits, IsClosed, IsSound, IsSearch, IsGoing, weight, waiting, work_left, labels_with, queue_with}

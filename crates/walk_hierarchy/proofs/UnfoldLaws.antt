@@ -1,22 +1,21 @@
 -- Arcs that are unfolded, and the walks that they give.
-use Rattle.std.proofs.Common.{◌≡◌, ◌≢◌, ◌∙◌, ℕ, zero, suc, ◌+◌, ◌-◌, ◌*◌, ◌<◌, ◌≤◌, ◌⊎◌, Bool, true, false, cond, List, [], ◌∷◌, ◌++◌, length, slice_index_or, Option, Some, None, refl, sym, ap, subst, inl, inr, arith}
+use Rattle.std.proofs.Common.{◌≡◌, ◌≢◌, ◌∙◌, ℕ, zero, suc, ◌+◌, ◌-◌, ◌*◌, ◌<◌, ◌≤◌, Bool, true, false, cond, List, [], ◌∷◌, ◌++◌, length, slice_index_or, Option, Some, refl, sym, ap, subst, inl, inr, arith}
 use Rattle.std.specs.Prelude.{All, Contains, ◌==◌, if◌then◌else◌}
 use Rattle.std.specs.List.{AllAdjacentBelow, sum_by}
 use Rattle.std.proofs.lemmas.Bool.{cases_eq, cases_lt}
 use Rattle.std.proofs.lemmas.Bool.Decides.{nat_tests}
 use Rattle.std.proofs.lemmas.List.{get_or_default, get_or_append_left, get_or_push, length_push}
 use Rattle.std.proofs.lemmas.List.Sums.{sum_by_push}
-use Rattle.std.proofs.lemmas.List.Elements.{All-contains, All-push, Contains-push}
+use Rattle.std.proofs.lemmas.List.Elements.{All-contains, Contains-push}
 use Rattle.move_model.specs.declared.network.NodeNo.{NodeNo}
 use Rattle.move_model.specs.Streets.{Streets, IsVertex, IsLeastArc, IsWalk, HasDistance}
 use Rattle.move_model.specs.Streets.IsWalk.{stays, goes}
-use Rattle.walk_queue.specs.Keys.{key_at}
 use Rattle.walk_hierarchy.specs.declared.arcs.UpDown.{UpDown}
 use Rattle.walk_hierarchy.specs.declared.labels.Label.{Label}
 use Rattle.walk_laws.specs.Sums.{IsSum, IsLeast}
 use Rattle.walk_laws.specs.Sums.IsSum.{none as no_arcs}
 use Rattle.walk_hierarchy.specs.Hierarchy.{Parts, IsNode, rank_of, HasArc, IsArcUp, IsArcDown, IsBefore, IsAdded, IsMade, IsHierarchy, IsLeastStreet, IsOver, IsUpDownSum, GivesDistances, IsWayOver, IsShortestWalk}
-use Rattle.walk_hierarchy.specs.Labels.{HasLabel, HasWithin, IsVia, IsLeastFrom}
+use Rattle.walk_hierarchy.specs.Labels.{HasLabel, IsLeastFrom}
 use Rattle.walk_hierarchy.specs.Meeting.{IsArcBack}
 use Rattle.walk_hierarchy.specs.Unfolding.{IsArcOf, IsStack, IsUnfolding}
 use Rattle.walk_hierarchy.specs.Unfolding.IsStack.{none, more}

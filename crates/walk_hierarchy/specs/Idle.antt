@@ -1,6 +1,6 @@
 -- The scratch memory between two searches.
 --     IsIdle up down queue room  no vertex has a label or waits, and there is room for an entry of each
-use Rattle.std.specs.Prelude.{◌≡◌, ℕ, ◌≤◌, ◌<◌, List, Option, None, length, replicate}
+use Rattle.std.specs.Prelude.{◌≡◌, ℕ, ◌≤◌, List, Option, None, length, replicate}
 use Rattle.walk_hierarchy.specs.declared.labels.Label.{Label}
 
 pub record IsIdle (up down : List (Option Label)) (queue : List (Option ℕ)) (room : ℕ) : Type 0 where

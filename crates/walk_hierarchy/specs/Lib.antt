@@ -7,3 +7,4 @@ pub mod Idle
 pub mod Search
 pub mod Meeting
 pub mod Unfolding
+pub mod Samples

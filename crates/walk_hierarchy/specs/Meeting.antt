@@ -2,7 +2,7 @@
 --     IsArcBack arcs p q l       one of the arcs leads from q to p in l seconds
 --     IsBest up down nodes r     r is where they meet with the fewest seconds, of these vertices, or None
 --     IsBestOfAll up down r      the same of all vertices
-use Rattle.std.specs.Prelude.{◌≡◌, ℕ, ◌≤◌, List, Option, Some, None, Contains}
+use Rattle.std.specs.Prelude.{ℕ, ◌≤◌, List, Option, Some, None, Contains}
 use Rattle.move_model.specs.declared.network.NodeNo.{NodeNo}
 use Rattle.walk_hierarchy.specs.declared.arcs.UpDown.{UpDown}
 use Rattle.walk_hierarchy.specs.declared.meeting.Meeting.{Meeting}

@@ -20,6 +20,8 @@ mod meeting;
 mod rows;
 mod search;
 mod settled;
+#[cfg(test)]
+mod tests;
 mod unfolding;
 mod up_down;
 mod work;

@@ -1,4 +1,4 @@
-use Rattle.std.proofs.Common.{◌++◌, ◌∷◌, List, sym, subst, arith}
+use Rattle.std.proofs.Common.{List, sym, subst, arith}
 use Rattle.std.proofs.lemmas.List.{take_all, take_more}
 use Rattle.move_model.specs.declared.network.NodeNo.{NodeNo}
 use Rattle.walk_hierarchy.specs.Meeting.{IsBest}

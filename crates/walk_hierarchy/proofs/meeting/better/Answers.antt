@@ -1,4 +1,4 @@
-use Rattle.std.proofs.Common.{◌≡◌, ◌+◌, ◌≤◌, Option, Some, None, sym, subst, ◌∙◌, arith}
+use Rattle.std.proofs.Common.{◌≡◌, Option, Some, None, sym, subst, ◌∙◌, arith}
 use Rattle.walk_hierarchy.specs.declared.meeting.Meeting.{Meeting}
 use Rattle.walk_hierarchy.specs.Labels.{HasLabel}
 use Rattle.walk_hierarchy.specs.Meeting.{IsBest}

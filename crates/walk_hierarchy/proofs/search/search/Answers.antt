@@ -1,7 +1,7 @@
-use Rattle.std.proofs.Common.{◌≡◌, ◌+◌, ◌<◌, ℕ, List, Option, None, length, refl, sym, ap, subst, ◌∙◌, arith}
+use Rattle.std.proofs.Common.{◌≡◌, ℕ, Option, None, length, refl, sym, ap, ◌∙◌, arith}
 use Rattle.std.proofs.lemmas.List.{length-replicate}
 use Rattle.walk_hierarchy.specs.declared.labels.Label.{Label}
-use Rattle.walk_hierarchy.proofs.SearchLaws.{marked, IsMarked, search_first, going_taken, less_taken, least_from, none_waits}
+use Rattle.walk_hierarchy.proofs.SearchLaws.{marked, IsMarked, search_first, going_taken, least_from, none_waits}
 use Rattle.walk_hierarchy.proofs.search.search.Goals as goal
 
 pub vertices-init : goal.vertices-init

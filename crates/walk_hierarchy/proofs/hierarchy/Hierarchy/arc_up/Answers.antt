@@ -1,10 +1,8 @@
-use Rattle.std.proofs.Common.{◌≡◌, ◌≤◌, List, length, refl, sym, ap, subst, arith}
+use Rattle.std.proofs.Common.{◌≤◌, List, length, refl, sym, subst, arith}
 use Rattle.std.specs.Prelude.{Contains}
 use Rattle.move_model.specs.declared.network.NodeNo.{NodeNo}
-use Rattle.walk_hierarchy.specs.declared.arcs.UpDown.{UpDown}
 use Rattle.walk_hierarchy.specs.declared.rows.Half.{Half}
 use Rattle.walk_hierarchy.specs.Hierarchy.{Parts, HasArc}
-use Rattle.walk_hierarchy.specs.Search.{row_of, HasHalf}
 use Rattle.walk_hierarchy.proofs.HalfLaws.{half_up_of, up_stands}
 use Rattle.walk_hierarchy.proofs.hierarchy.Hierarchy.arc_up.Goals as goal
 

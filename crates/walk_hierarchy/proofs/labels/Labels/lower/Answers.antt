@@ -1,9 +1,8 @@
-use Rattle.std.proofs.Common.{◌≡◌, ◌<◌, List, Option, Some, length, slice_set, true, ap, ◌∙◌, arith, rules, vec_capacity, subst, sym}
+use Rattle.std.proofs.Common.{◌≡◌, ◌<◌, List, Option, Some, length, slice_set, true, ap, ◌∙◌, arith}
 use Rattle.std.proofs.lemmas.Bool.Decides.{nat_tests}
 use Rattle.std.proofs.lemmas.List.{length-map}
-use Rattle.move_model.specs.declared.network.NodeNo.{NodeNo}
 use Rattle.walk_hierarchy.specs.declared.labels.Label.{Label}
-use Rattle.walk_hierarchy.specs.Labels.{is_label, label_of, IsTouched}
+use Rattle.walk_hierarchy.specs.Labels.{is_label, label_of}
 use Rattle.walk_hierarchy.proofs.LabelLaws.{read_absent, read_held, room_for, touched_first, touched_again, set_view}
 use Rattle.walk_hierarchy.proofs.labels.Labels.lower.Goals as goal
 
