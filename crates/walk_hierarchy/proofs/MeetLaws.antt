@@ -1,20 +1,21 @@
 -- Where a search up and a search down meet.
-use Rattle.std.proofs.Common.{◌≡◌, ◌∙◌, ℕ, ◌+◌, ◌≤◌, List, [], ◌∷◌, ◌++◌, Option, Some, None, option_map, refl, sym, ap, subst, inl, inr, arith}
+use Rattle.std.proofs.Common.{◌≡◌, ◌∙◌, ℕ, ◌+◌, ◌<◌, ◌≤◌, List, length, slice_set, replicate, Option, Some, None, option_map, refl, sym, ap, subst, inl, inr, arith}
 use Rattle.std.specs.Prelude.{Contains}
-use Rattle.std.proofs.lemmas.List.Elements.{Contains-push_cases, Contains-append_left}
+use Rattle.std.proofs.lemmas.Bool.{cases_eq, cases_lt}
 use Rattle.move_model.specs.declared.network.NodeNo.{NodeNo}
 use Rattle.move_model.specs.Streets.{Streets, HasDistance}
+use Rattle.walk_queue.specs.Keys.{key_at, IsEmpty}
 use Rattle.walk_hierarchy.specs.declared.labels.Label.{Label}
 use Rattle.walk_hierarchy.specs.declared.settled.Settled.{Settled}
 use Rattle.walk_hierarchy.specs.declared.meeting.Meeting.{Meeting}
+use Rattle.walk_hierarchy.specs.declared.rows.Rows.{Rows}
 use Rattle.walk_laws.specs.Sums.{IsSum, IsLeast, HasLeast}
 use Rattle.walk_hierarchy.specs.Hierarchy.{Parts, IsNode, HasArc, IsDownSum, IsUpDownSum, GivesDistances, AreSettled}
-use Rattle.walk_hierarchy.specs.Labels.{HasLabel, IsLeastFrom, Meets, AreListed}
-use Rattle.walk_hierarchy.specs.Meeting.{IsArcBack, HasBestOf, IsBest, IsBestOfAll}
+use Rattle.walk_hierarchy.specs.Labels.{HasLabel, HasWithin, IsLeastFrom, AreSums, HasLeastLabel, AreListed}
+use Rattle.walk_hierarchy.specs.Search.{HasHalf, Climbs, Waits, IsSearch, IsGoing, IsOnward}
+use Rattle.walk_hierarchy.specs.Meeting.{IsArcBack, IsBetween, IsBest, HasBest, bound_of, IsMeeting, IsHeld, IsBoth, IsBetter}
 use Rattle.walk_laws.proofs.SumLemmas.{IsSum-join, IsSum-one, IsSum-reverse}
-
-label_same : (labels : List (Option Label)) (v : ℕ) (x y : Label) → HasLabel labels v x → HasLabel labels v y → x ≡ y
-label_same labels v x y f g = let e : Some x ≡ Some y = sym f.is ∙ g.is in cc
+use Rattle.walk_hierarchy.proofs.SearchLaws.{Some-same, entry_other, few_seconds, going_taken, search_lower, search_stopped, labelled_near}
 
 -- the same labels, for arcs that are told otherwise
 pub least_along : (one two : ℕ → ℕ → ℕ → Type 0) (from : ℕ) (labels : List (Option Label))
@@ -64,109 +65,262 @@ settled_down h to entries is =
     settled_along (IsSum (IsArcBack h.down) to) (λ v m. IsDownSum h v to m) entries
     (λ v m sum. IsSum-reverse (λ p q l arc. arc) sum) (λ v m sum. IsSum-reverse (λ p q l arc. arc) sum) is
 
--- the best so far
+-- the same sums, for arcs that are told otherwise
+pub sums_along : (one two : ℕ → ℕ → ℕ → Type 0) (from : ℕ) (labels : List (Option Label)) → ((p q l : ℕ) → one p q l → two p q l)
+    → AreSums one from labels → AreSums two from labels
+sums_along one two from labels there is = record {
+  sums = λ v x label. IsSum-join (λ p q l arc. IsSum-one (there p q l arc)) (is.sums v x label);
+  comes = λ v x label. elim (is.comes v x label) [
+    | inl first ↦ inl first
+    | inr via ↦
+        inr (record { y = via.y; k = via.k; before = via.before; leads = there x.parent.0 v via.k via.leads; within = via.within })
+  ];
+}
 
-module _ (up down : List (Option Label)) where
-  pub best_none : IsBest up down [] None
-  best_none = λ v s has meets. absurd (omega (arith, has.1))
+between_along : (one two one' two' : ℕ → ℕ → ℕ → Type 0) (a b s : ℕ) → ((p q l : ℕ) → one p q l → one' p q l) → ((p q l : ℕ) → two p q l → two' p q l)
+    → IsBetween one two a b s → IsBetween one' two' a b s
+between_along one two one' two' a b s there back is = record {
+  top = is.top;
+  l = is.l;
+  k = is.k;
+  there = IsSum-join (λ p q l arc. IsSum-one (there p q l arc)) is.there;
+  back = IsSum-join (λ p q l arc. IsSum-one (back p q l arc)) is.back;
+  total = is.total;
+}
 
-  -- a vertex at which they don't meet
-  best_skip : (P Q : ℕ → Type 0) (best : Option Meeting) → ((v s : ℕ) → P v → Q v) → ((v s : ℕ) → Q v → Meets up down v s → P v)
-      → HasBestOf up down P best → HasBestOf up down Q best
-  best_skip P Q None there back is = λ v s q meets. is v s (back v s q meets) meets
-  best_skip P Q (Some m) there back is = record { meets = is.meets; least = λ v s q meets. is.least v s (back v s q meets) meets }
+pub best_along : (one two one' two' : ℕ → ℕ → ℕ → Type 0) (a b : ℕ) (up down : List (Option Label)) (best : Option Meeting)
+    → ((p q l : ℕ) → one p q l → one' p q l) → ((p q l : ℕ) → one' p q l → one p q l)
+    → ((p q l : ℕ) → two p q l → two' p q l) → ((p q l : ℕ) → two' p q l → two p q l)
+    → HasBest one two a b up down best → HasBest one' two' a b up down best
+best_along one two one' two' a b up down None there there_back back back_back is =
+    λ s between. is s (between_along one' two' one two a b s there_back back_back between)
+best_along one two one' two' a b up down (Some m) there there_back back back_back is = record {
+  meets = is.meets;
+  least = record {
+    attained = between_along one two one' two' a b m.seconds there back is.least.attained;
+    least = λ s between. is.least.least s (between_along one' two' one two a b s there_back back_back between);
+  };
+}
 
-  pub best_apart : (nodes : List NodeNo) (node : NodeNo) (best : Option Meeting) → ((x y : Label) → HasLabel up node.0 x → HasLabel down node.0 y → ⊥)
-      → IsBest up down nodes best → IsBest up down (nodes ++ node ∷ []) best
-  best_apart nodes node best apart is =
-      best_skip (λ v. Contains nodes (record { 0 = v })) (λ v. Contains (nodes ++ node ∷ []) (record { 0 = v })) best
-      (λ v s has. Contains-append_left nodes (node ∷ []) (record { 0 = v }) has)
-      (λ v s has meets. elim (Contains-push_cases nodes node (record { 0 = v }) has) [
-        | inl before ↦ before
-        | inr same ↦
-            let e : v ≡ node.0 = ap (λ (n : NodeNo). n.0) (sym same) in
-            absurd (apart meets.x meets.y (subst (λ (n : ℕ). HasLabel up n meets.x) e meets.there) (subst (λ (n : ℕ). HasLabel down n meets.y) e meets.back))
-      ])
-      is
+-- the two searches by turns
 
-  module _ (nodes : List NodeNo) (node : NodeNo) (x y : Label) (there : HasLabel up node.0 x) (back : HasLabel down node.0 y) where
-    total_here : (v s : ℕ) → node ≡ record { 0 = v } → Meets up down v s → s ≡ x.seconds + y.seconds
-    total_here v s same meets =
-        let e : v ≡ node.0 = ap (λ (n : NodeNo). n.0) (sym same) in
-        let f : meets.x ≡ x = label_same up node.0 meets.x x (subst (λ (n : ℕ). HasLabel up n meets.x) e meets.there) there in
-        let g : meets.y ≡ y = label_same down node.0 meets.y y (subst (λ (n : ℕ). HasLabel down n meets.y) e meets.back) back in
-        omega (arith, meets.total, ap (λ (z : Label). z.seconds) f, ap (λ (z : Label). z.seconds) g)
-
-    here : Meets up down node.0 (x.seconds + y.seconds)
-    here = record { x = x; y = y; there = there; back = back; total = refl }
-
-    pub best_stays : (m : Meeting) → m.seconds ≤ x.seconds + y.seconds → IsBest up down nodes (Some m) → IsBest up down (nodes ++ node ∷ []) (Some m)
-    best_stays m le is = record {
-      meets = is.meets;
-      least = λ v s has meets. elim (Contains-push_cases nodes node (record { 0 = v }) has) [
-        | inl before ↦ is.least v s before meets
-        | inr same ↦ omega (arith, total_here v s same meets)
-      ];
+pub both_swap : (rows other : Rows) (from to : ℕ) (best : Option Meeting) (labels : List (Option Label)) (queue : List (Option ℕ)) (others : List (Option Label)) (waiting : List (Option ℕ))
+    → IsBoth rows other from to best labels queue others waiting → IsBoth other rows to from best others waiting labels queue
+both_swap rows other from to best labels queue others waiting both = record {
+  here = both.there;
+  there = both.here;
+  met = λ v x y has back. elim (both.met v y x back has) [
+    | inl waits ↦ inr (inl waits)
+    | inr (inl waits) ↦ inl waits
+    | inr (inr le) ↦ inr (inr (omega (arith, le)))
+  ];
+  held = held_swap best both.held;
+}
+  where
+    held_swap : (r : Option Meeting) → IsHeld (HasHalf rows) (HasHalf other) from to labels others r → IsHeld (HasHalf other) (HasHalf rows) to from others labels r
+    held_swap None held = tt
+    held_swap (Some m) held = record {
+      l = held.k;
+      k = held.l;
+      there = held.back;
+      back = held.there;
+      total = omega (arith, held.total);
+      within = held.within_back;
+      within_back = held.within;
     }
 
-    pub best_first : IsBest up down nodes None → IsBest up down (nodes ++ node ∷ []) (Some (record { seconds = x.seconds + y.seconds; node = node }))
-    best_first is = record {
-      meets = here;
-      least = λ v s has meets. elim (Contains-push_cases nodes node (record { 0 = v }) has) [
-        | inl before ↦ absurd (is v s before meets)
-        | inr same ↦ omega (arith, total_here v s same meets)
-      ];
-    }
+pub both_first : (rows other : Rows) (from to : ℕ) (labels : List (Option Label)) (queue : List (Option ℕ)) (others : List (Option Label)) (waiting : List (Option ℕ))
+    → IsSearch rows from 18446744073709551615 labels queue → IsSearch other to 18446744073709551615 others waiting
+    → ((v : ℕ) (x : Label) → HasLabel labels v x → Waits queue v x.seconds) → IsBoth rows other from to None labels queue others waiting
+both_first rows other from to labels queue others waiting here there waits = record {
+  here = here;
+  there = there;
+  met = λ v x y has back. inl (waits v x has);
+  held = tt;
+}
 
-    pub best_falls : (m : Meeting) → x.seconds + y.seconds ≤ m.seconds → IsBest up down nodes (Some m)
-        → IsBest up down (nodes ++ node ∷ []) (Some (record { seconds = x.seconds + y.seconds; node = node }))
-    best_falls m le is = record {
-      meets = here;
-      least = λ v s has meets. elim (Contains-push_cases nodes node (record { 0 = v }) has) [
-        | inl before ↦ omega (arith, is.least v s before meets)
-        | inr same ↦ omega (arith, total_here v s same meets)
-      ];
-    }
-
-  -- every vertex at which they meet was looked at
-  pub best_of_all : (nodes : List NodeNo) (best : Option Meeting) → ((v : ℕ) (x : Label) → HasLabel up v x → Contains nodes (record { 0 = v }))
-      → IsBest up down nodes best → IsBestOfAll up down best
-  best_of_all nodes best all is =
-      best_skip (λ v. Contains nodes (record { 0 = v })) (λ v. Unit {0}) best (λ v s has. tt) (λ v s q meets. all v meets.x meets.there) is
-
--- the best meeting is the least sum
-module _ (h : Parts) (a b : NodeNo) (up down : List (Option Label)) (there : IsLeastFrom (HasArc h.up) a.0 up) (back : IsLeastFrom (IsArcBack h.down) b.0 down) where
-  sum_of : (v s : ℕ) → Meets up down v s → IsUpDownSum h a b s
-  sum_of v s meets = record {
-    top = v;
-    l = meets.x.seconds;
-    k = meets.y.seconds;
-    up = (there.least v meets.x meets.there).attained;
-    down = IsSum-reverse (λ p q l arc. arc) (back.least v meets.y meets.back).attained;
-    total = meets.total;
+module _ (rows other : Rows) (from to : ℕ) (best : Option Meeting) (labels : List (Option Label)) (queue : List (Option ℕ)) (others : List (Option Label)) (waiting : List (Option ℕ))
+    (both : IsBoth rows other from to best labels queue others waiting) where
+  pub both_stopped : (n : ℕ) → n ≡ length queue → ((v s : ℕ) → Waits queue v s → bound_of best ≤ s)
+      → IsBoth rows other from to best labels (replicate n None) others waiting
+  both_stopped n many far = record {
+    here = search_stopped rows from (bound_of best) n labels queue many far both.here;
+    there = both.there;
+    met = λ v x y has back. elim (both.met v x y has back) [
+      | inl waits ↦ let le = far v x.seconds waits in inr (inr (omega (arith, le)))
+      | inr done ↦ inr done
+    ];
+    held = both.held;
   }
 
-  -- the searches meet at the top of any sum, in no more seconds
-  pub record MeetsWithin (v s : ℕ) : Type 0 where
-    pub m : ℕ
-    pub meets : Meets up down v m
-    pub within : m ≤ s
+  held_falls : (after : List (Option Label)) (r : Option Meeting) → ((u m : ℕ) → HasWithin labels u m → HasWithin after u m)
+      → IsHeld (HasHalf rows) (HasHalf other) from to labels others r → IsHeld (HasHalf rows) (HasHalf other) from to after others r
+  held_falls after None falls held = tt
+  held_falls after (Some m) falls held = record {
+    l = held.l;
+    k = held.k;
+    there = held.there;
+    back = held.back;
+    total = held.total;
+    within = falls m.node.0 held.l held.within;
+    within_back = held.within_back;
+  }
 
-  meets_of : (s : ℕ) → (sum : IsUpDownSum h a b s) → MeetsWithin sum.top s
-  meets_of s sum =
-      let f = there.all sum.top sum.l sum.up in
-      let g = back.all sum.top sum.k (IsSum-reverse (λ p q l arc. arc) sum.down) in
-      record {
-        m = f.x.seconds + g.x.seconds;
-        meets = record { x = f.x; y = g.x; there = f.label; back = g.label; total = refl };
-        within = omega (arith, f.within, g.within, sum.total);
-      }
+  -- the arcs of a vertex that waited are done
+  pub both_left : (at s : ℕ) (result : Option Meeting) (after : List (Option Label)) (then_waits : List (Option ℕ)) → Waits queue at s
+      → IsBetter others at s best result → IsOnward labels (slice_set queue at None) after then_waits
+      → ((a bound : ℕ) → IsGoing rows a bound at s 0 labels (slice_set queue at None) → IsSearch rows a bound after then_waits)
+      → IsBoth rows other from to result after then_waits others waiting
+  both_left at s result after then_waits waits better onward left = record {
+    here = left from (bound_of result)
+        (going_taken rows from (bound_of result) at s labels queue (search_lower rows from (bound_of best) (bound_of result) labels queue better.lower both.here) waits);
+    there = search_lower other to (bound_of best) (bound_of result) others waiting better.lower both.there;
+    met = λ v x y has back. elim (onward.only v x has) [
+      | inr now ↦ inl now
+      | inl was ↦ elim (both.met v x y was.0 back) [
+        | inr (inl still) ↦ inr (inl still)
+        | inr (inr le) ↦ inr (inr (omega (arith, le, better.lower)))
+        | inl waited ↦ elim (cases_eq v at) [
+          | inl e ↦
+              let same : x.seconds ≡ s = Some-same x.seconds s (sym (ap (key_at queue) (sym e) ∙ waited) ∙ waits) in
+              let le : bound_of result ≤ s + y.seconds = better.here y (subst (λ (n : ℕ). HasLabel others n y) e back) in
+              inr (inr (omega (arith, le, same)))
+          | inr ne ↦ inl (was.1 x.seconds (entry_other queue at v None ne ∙ waited))
+        ]
+      ]
+    ];
+    held = elim better.is [
+      | inl same ↦
+          subst (λ (r : Option Meeting). IsHeld (HasHalf rows) (HasHalf other) from to after others r) (sym same) (held_falls after best onward.falls both.held)
+      | inr new ↦
+          let m : Meeting = record { seconds = s + new.0.seconds; node = record { 0 = at } } in
+          let x = both.here.sound.waits at s waits in
+          let now : IsMeeting (HasHalf rows) (HasHalf other) from to after others (record { seconds = s + new.0.seconds; node = record { 0 = at } }) = record {
+            l = s;
+            k = new.0.seconds;
+            there = subst (λ (n : ℕ). IsSum (HasHalf rows) from at n) x.1.1 (both.here.sound.sums at x.0 x.1.0);
+            back = both.there.sound.sums at new.0 new.1.0;
+            total = refl;
+            within = onward.falls at s (record { x = x.0; label = x.1.0; within = omega (arith, x.1.1) });
+            within_back = record { x = new.0; label = new.1.0; within = omega arith };
+          } in
+          subst (λ (r : Option Meeting). IsHeld (HasHalf rows) (HasHalf other) from to after others r) (sym new.1.1) now
+    ];
+  }
 
-  pub least_sum : (best : Option Meeting) → IsBestOfAll up down best → HasLeast (IsUpDownSum h a b) (option_map (λ m. m.seconds) best)
-  least_sum None is = λ s sum. let m = meets_of s sum in is sum.top m.m tt m.meets
+  -- no vertex waits
+  module _ (empty : IsEmpty queue) (others_empty : IsEmpty waiting) where
+    no_less : (s : ℕ) → IsBetween (HasHalf rows) (HasHalf other) from to s → s < bound_of best → ⊥
+    no_less s between near =
+        let f = labelled_near rows from (bound_of best) labels queue both.here empty between.top between.l (omega (arith, between.total, near)) between.there in
+        let g = labelled_near other to (bound_of best) others waiting both.there others_empty between.top between.k (omega (arith, between.total, near)) between.back in
+        elim (both.met between.top f.x g.x f.label g.label) [
+          | inl waits ↦ no_wait queue between.top f.x.seconds empty waits
+          | inr (inl waits) ↦ no_wait waiting between.top g.x.seconds others_empty waits
+          | inr (inr le) ↦ omega (arith, le, near, f.within, g.within, between.total)
+        ]
+      where
+        no_wait : (keys : List (Option ℕ)) (v k : ℕ) → IsEmpty keys → Waits keys v k → ⊥
+        no_wait keys v k idle waits = let e : None ≡ Some k = sym (idle v) ∙ waits in cc
+
+    least_between : (s : ℕ) → IsBetween (HasHalf rows) (HasHalf other) from to s → bound_of best ≤ s
+    least_between s between = elim (cases_lt s (bound_of best)) [
+      | inl near ↦ absurd (no_less s between near)
+      | inr le ↦ le
+    ]
+
+pub both_done : (rows other : Rows) (places : ℕ) (c : Climbs rows places) (d : Climbs other places) (from to : ℕ) (best : Option Meeting)
+    (labels : List (Option Label)) (queue : List (Option ℕ)) (others : List (Option Label)) (waiting : List (Option ℕ))
+    → IsBoth rows other from to best labels queue others waiting → IsEmpty queue → IsEmpty waiting
+    → HasBest (HasHalf rows) (HasHalf other) from to labels others best
+both_done rows other places c d from to None labels queue others waiting both empty others_empty = λ s between.
+    omega (
+      arith,
+      least_between rows other from to None labels queue others waiting both empty others_empty s between,
+      few_seconds rows places c between.there,
+      few_seconds other places d between.back,
+      between.total,
+    )
+both_done rows other places c d from to (Some m) labels queue others waiting both empty others_empty =
+    let held = both.held in
+    let x = held.within in
+    let y = held.within_back in
+    let shown : IsBetween (HasHalf rows) (HasHalf other) from to (x.x.seconds + y.x.seconds) = record {
+      top = m.node.0;
+      l = x.x.seconds;
+      k = y.x.seconds;
+      there = both.here.sound.sums m.node.0 x.x x.label;
+      back = both.there.sound.sums m.node.0 y.x y.label;
+      total = refl;
+    } in
+    let le : m.seconds ≤ x.x.seconds + y.x.seconds =
+    least_between rows other from to (Some m) labels queue others waiting both empty others_empty (x.x.seconds + y.x.seconds) shown in
+    record {
+      meets = record { x = x.x; y = y.x; there = x.label; back = y.label; total = omega (arith, le, x.within, y.within, held.total) };
+      least = record {
+        attained = record { top = m.node.0; l = held.l; k = held.k; there = held.there; back = held.back; total = held.total };
+        least = least_between rows other from to (Some m) labels queue others waiting both empty others_empty;
+      };
+    }
+
+pub sums_of : (rows : Rows) (from bound : ℕ) (labels : List (Option Label)) (queue : List (Option ℕ)) → IsSearch rows from bound labels queue → AreSums (HasHalf rows) from labels
+sums_of rows from bound labels queue search = record { sums = search.sound.sums; comes = search.sound.comes }
+
+-- the best meeting is the least sum
+module _ (h : Parts) (a b : NodeNo) (up down : List (Option Label)) where
+  sum_of : (s : ℕ) → IsBetween (HasArc h.up) (IsArcBack h.down) a.0 b.0 s → IsUpDownSum h a b s
+  sum_of s between = record {
+    top = between.top;
+    l = between.l;
+    k = between.k;
+    up = between.there;
+    down = IsSum-reverse (λ p q l arc. arc) between.back;
+    total = between.total;
+  }
+
+  between_of : (s : ℕ) → IsUpDownSum h a b s → IsBetween (HasArc h.up) (IsArcBack h.down) a.0 b.0 s
+  between_of s sum = record {
+    top = sum.top;
+    l = sum.l;
+    k = sum.k;
+    there = sum.up;
+    back = IsSum-reverse (λ p q l arc. arc) sum.down;
+    total = sum.total;
+  }
+
+  pub least_sum : (best : Option Meeting) → HasBest (HasArc h.up) (IsArcBack h.down) a.0 b.0 up down best → HasLeast (IsUpDownSum h a b) (option_map (λ m. m.seconds) best)
+  least_sum None is = λ s sum. is s (between_of s sum)
   least_sum (Some best) is = record {
-    attained = sum_of best.node.0 best.seconds is.meets;
-    least = λ s sum. let m = meets_of s sum in omega (arith, m.within, is.least sum.top m.m tt m.meets);
+    attained = sum_of best.seconds is.least.attained;
+    least = λ s sum. is.least.least s (between_of s sum);
+  }
+
+-- and the labels at its vertex are least
+module _ (one two : ℕ → ℕ → ℕ → Type 0) (a b : ℕ) (up down : List (Option Label)) (m : Meeting) (best : IsBest one two a b up down m) (there : AreSums one a up) (back : AreSums two b down) where
+  pub least_there : HasLeastLabel one a up m.node.0
+  least_there = record {
+    x = best.meets.x;
+    has = best.meets.there;
+    least = record {
+      attained = there.sums m.node.0 best.meets.x best.meets.there;
+      least = λ n sum.
+          let other : m.seconds ≤ n + best.meets.y.seconds = best.least.least (n + best.meets.y.seconds)
+          (record { top = m.node.0; l = n; k = best.meets.y.seconds; there = sum; back = back.sums m.node.0 best.meets.y best.meets.back; total = refl }) in
+          omega (arith, other, best.meets.total);
+    };
+  }
+
+  pub least_back : HasLeastLabel two b down m.node.0
+  least_back = record {
+    x = best.meets.y;
+    has = best.meets.back;
+    least = record {
+      attained = back.sums m.node.0 best.meets.y best.meets.back;
+      least = λ n sum.
+          let other : m.seconds ≤ best.meets.x.seconds + n = best.least.least (best.meets.x.seconds + n)
+          (record { top = m.node.0; l = best.meets.x.seconds; k = n; there = there.sums m.node.0 best.meets.x best.meets.there; back = sum; total = refl }) in
+          omega (arith, other, best.meets.total);
+    };
   }
 
 pub distance_from : (h : Parts) (a b : NodeNo) (r : Option ℕ) → IsNode h a → IsNode h b → HasLeast (IsUpDownSum h a b) r

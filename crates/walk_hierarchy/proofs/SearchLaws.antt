@@ -5,21 +5,25 @@ use Rattle.std.proofs.lemmas.Bool.{cases_eq, cases_lt}
 use Rattle.std.proofs.lemmas.Bool.Decides.{nat_tests}
 use Rattle.std.proofs.lemmas.List.{get_or_default, get_or_past, get_or-set_same, get_or-set_other, get_or-replicate, length-set, length-replicate, same_lists}
 use Rattle.std.proofs.lemmas.List.Sums.{sum_by-set}
+use Rattle.std.proofs.lemmas.List.Folds.{sum_by-replicate}
+use Rattle.std.specs.declared.cmp.Ordering.TheVariants.{Less, Equal, Greater}
+use Rattle.std.specs.Ordering.{nat_cmp}
+use Rattle.std.specs.Cmp.{nat_cmp_is}
 use Rattle.std.proofs.lemmas.List.Elements.{Contains-get_or}
 use Rattle.move_model.specs.declared.network.NodeNo.{NodeNo}
-use Rattle.walk_queue.specs.Keys.{key_at, IsEmpty}
+use Rattle.walk_queue.specs.Keys.{key_at, IsEmpty, IsLeast as IsLeastKey}
 use Rattle.walk_hierarchy.specs.declared.labels.Label.{Label}
 use Rattle.walk_hierarchy.specs.declared.rows.Half.{Half}
 use Rattle.walk_hierarchy.specs.declared.rows.Rows.{Rows}
 use Rattle.walk_laws.specs.Sums.{IsSum, longest}
 use Rattle.walk_laws.specs.Sums.IsSum.{none, more}
 use Rattle.walk_hierarchy.specs.Labels.{HasLabel, HasWithin, IsVia, IsLeastFrom, lowers}
-use Rattle.walk_hierarchy.specs.Search.{row_of, HasHalf, Climbs, Waits, IsClosed, IsSound, IsSearch, IsGoing, weight, waiting, work_left, labels_with, queue_with}
+use Rattle.walk_hierarchy.specs.Search.{row_of, HasHalf, Climbs, Waits, IsClosed, IsDone, IsSound, IsSearch, IsGoing, IsOnward, weight, waiting, work_left, labels_with, queue_with}
 use Rattle.walk_laws.proofs.SumLemmas.{IsSum-append, IsSum-one}
 
 -- one entry for each vertex
 
-Some-same : {A : Type 0} (x y : A) → Some x ≡ Some y → x ≡ y
+pub Some-same : {A : Type 0} (x y : A) → Some x ≡ Some y → x ≡ y
 Some-same x y e = cc
 
 some_or_none : {A : Type 0} (x : A) → None ≡ Some x → ⊥
@@ -40,7 +44,7 @@ label_low labels v x f = entry_low labels v x f.is
 entry_here : {A : Type 0} (entries : List (Option A)) (v : ℕ) (x : Option A) → v < length entries → key_at (slice_set entries v x) v ≡ x
 entry_here entries v x low = get_or-set_same entries v x None low
 
-entry_other : {A : Type 0} (entries : List (Option A)) (v u : ℕ) (x : Option A) → u ≢ v → key_at (slice_set entries v x) u ≡ key_at entries u
+pub entry_other : {A : Type 0} (entries : List (Option A)) (v u : ℕ) (x : Option A) → u ≢ v → key_at (slice_set entries v x) u ≡ key_at entries u
 entry_other entries v u x ne = get_or-set_other entries v u x None ne
 
 entry_none : {A : Type 0} (n v : ℕ) (x : A) → key_at (replicate n None) v ≡ Some x → ⊥
@@ -196,13 +200,13 @@ module _ (rows : Rows) (from w : ℕ) (x : Label) (labels : List (Option Label))
     ];
   }
 
-  closed_marked : IsMarked labels queue after then_waits w x → (u : ℕ) (y : Label) → HasLabel after u y
-      → (HasLabel labels u y → Waits queue u y.seconds ⊎ IsClosed rows labels u y.seconds)
-      → Waits then_waits u y.seconds ⊎ IsClosed rows after u y.seconds
-  closed_marked m u y label before = elim (m.only u y label) [
+  closed_marked : (bound : ℕ) → IsMarked labels queue after then_waits w x → (u : ℕ) (y : Label) → HasLabel after u y
+      → (HasLabel labels u y → IsDone rows bound labels queue u y.seconds) → IsDone rows bound after then_waits u y.seconds
+  closed_marked bound m u y label before = elim (m.only u y label) [
     | inl was ↦ elim (before was.0) [
       | inl waits ↦ inl (was.1 y.seconds waits)
-      | inr closed ↦ inr (closed_falls rows labels after u y.seconds m.falls closed)
+      | inr (inl closed) ↦ inr (inl (closed_falls rows labels after u y.seconds m.falls closed))
+      | inr (inr far) ↦ inr (inr far)
     ]
     | inr now ↦
         inl (subst (λ (n : ℕ). Waits then_waits n y.seconds) (sym now.0) (subst (λ (z : Label). Waits then_waits w z.seconds) (sym now.1.0) now.1.1))
@@ -215,12 +219,12 @@ half_stands rows v i d exists lt =
     record { middle = (slice_index_or (row_of rows v) i d).middle; exists = exists; stands = Contains-get_or (row_of rows v) i d lt }
 
 -- along one more arc of a row
-module _ (rows : Rows) (c : (p q l : ℕ) → HasHalf rows p q l → p ≢ q) (from : ℕ) (v : ℕ) (s i : ℕ) (d : Half) (x : Label) (labels : List (Option Label)) (queue : List (Option ℕ)) (after : List (Option Label)) (then_waits : List (Option ℕ)) where
+module _ (rows : Rows) (c : (p q l : ℕ) → HasHalf rows p q l → p ≢ q) (from bound : ℕ) (v : ℕ) (s i : ℕ) (d : Half) (x : Label) (labels : List (Option Label)) (queue : List (Option ℕ)) (after : List (Option Label)) (then_waits : List (Option ℕ)) where
   going_marked : (arc : HasHalf rows v (slice_index_or (row_of rows v) i d).to.0 (slice_index_or (row_of rows v) i d).seconds)
       → i < length (row_of rows v)
       → x.parent.0 ≡ v → x.seconds ≡ s + (slice_index_or (row_of rows v) i d).seconds
-      → IsGoing rows from v s i labels queue → IsMarked labels queue after then_waits (slice_index_or (row_of rows v) i d).to.0 x
-      → IsGoing rows from v s (i + 1) after then_waits
+      → IsGoing rows from bound v s i labels queue → IsMarked labels queue after then_waits (slice_index_or (row_of rows v) i d).to.0 x
+      → IsGoing rows from bound v s (i + 1) after then_waits
   going_marked arc lt parent seconds going m =
       let w : ℕ = (slice_index_or (row_of rows v) i d).to.0 in
       let other : v ≢ (slice_index_or (row_of rows v) i d).to.0 = c v (slice_index_or (row_of rows v) i d).to.0 (slice_index_or (row_of rows v) i d).seconds arc in
@@ -239,7 +243,7 @@ module _ (rows : Rows) (c : (p q l : ℕ) → HasHalf rows p q l → p ≢ q) (f
       record {
         sound = sound_marked rows from (slice_index_or (row_of rows v) i d).to.0 x labels queue after then_waits going.sound m sum via;
         here = (going.here.0, (still, going.here.1.1));
-        others = λ u z ne label. closed_marked rows from (slice_index_or (row_of rows v) i d).to.0 x labels queue after then_waits m u z label (going.others u z ne);
+        others = λ u z ne label. closed_marked rows from (slice_index_or (row_of rows v) i d).to.0 x labels queue after then_waits bound m u z label (going.others u z ne);
         passed = λ k e le. elim (cases_eq k i) [
           | inl eq ↦
               let at : slice_index_or (row_of rows v) i d ≡ slice_index_or (row_of rows v) k e =
@@ -252,9 +256,9 @@ module _ (rows : Rows) (c : (p q l : ℕ) → HasHalf rows p q l → p ≢ q) (f
       }
 
 -- a vertex is taken out of those that wait
-pub going_taken : (rows : Rows) (from v s : ℕ) (labels : List (Option Label)) (queue : List (Option ℕ))
-    → IsSearch rows from labels queue → Waits queue v s → IsGoing rows from v s 0 labels (slice_set queue v None)
-going_taken rows from v s labels queue search waits =
+pub going_taken : (rows : Rows) (from bound v s : ℕ) (labels : List (Option Label)) (queue : List (Option ℕ))
+    → IsSearch rows from bound labels queue → Waits queue v s → IsGoing rows from bound v s 0 labels (slice_set queue v None)
+going_taken rows from bound v s labels queue search waits =
     let low : v < length queue = entry_low queue v s waits in
     record {
       sound = record {
@@ -270,7 +274,7 @@ going_taken rows from v s labels queue search waits =
       here = search.sound.waits v s waits;
       others = λ u x ne label. elim (search.closed u x label) [
         | inl still ↦ inl (entry_other queue v u None ne ∙ still)
-        | inr closed ↦ inr closed
+        | inr done ↦ inr done
       ];
       passed = λ k d lt. absurd (omega arith);
     }
@@ -283,28 +287,28 @@ less_taken labels queue v s waits =
     omega (arith, sums, one)
 
 -- all arcs of the vertex are done
-pub search_left : (rows : Rows) (from v s : ℕ) (labels : List (Option Label)) (queue : List (Option ℕ))
-    → IsGoing rows from v s (length (row_of rows v)) labels queue → IsSearch rows from labels queue
-search_left rows from v s labels queue going = record {
+pub search_left : (rows : Rows) (from bound v s : ℕ) (labels : List (Option Label)) (queue : List (Option ℕ))
+    → IsGoing rows from bound v s (length (row_of rows v)) labels queue → IsSearch rows from bound labels queue
+search_left rows from bound v s labels queue going = record {
   sound = going.sound;
   closed = λ u x label. elim (cases_eq u v) [
     | inl e ↦
         let at : HasLabel labels v x = subst (λ (n : ℕ). HasLabel labels n x) e label in
         let same : x.seconds ≡ s = ap (λ (y : Label). y.seconds) (label_same labels v x going.here.0 at going.here.1.0) ∙ going.here.1.1 in
-        inr (λ q k arc.
+        inr (inl (λ q k arc.
         let mine : HasHalf rows v q k = subst (λ (n : ℕ). HasHalf rows n q k) e arc in
         let h : Half = record { seconds = k; to = record { 0 = q }; middle = mine.middle } in
         let there : HasWithin labels q (s + k) =
         subst (λ (z : Half). HasWithin labels z.to.0 (s + z.seconds)) mine.stands.2 (going.passed mine.stands.0 h mine.stands.1) in
-        subst (λ (n : ℕ). HasWithin labels q (n + k)) (sym same) there)
+        subst (λ (n : ℕ). HasWithin labels q (n + k)) (sym same) there))
     | inr ne ↦ going.others u x ne label
   ];
 }
 
 -- the first vertex has its label
-pub search_first : (rows : Rows) (from n : ℕ) (x : Label) (labels : List (Option Label)) (queue : List (Option ℕ)) (after : List (Option Label)) (then_waits : List (Option ℕ))
-    → labels ≡ replicate n None → queue ≡ replicate n None → x.seconds ≡ 0 → IsMarked labels queue after then_waits from x → IsSearch rows from after then_waits
-search_first rows from n x labels queue after then_waits labels_none queue_none zero m =
+pub search_first : (rows : Rows) (from bound n : ℕ) (x : Label) (labels : List (Option Label)) (queue : List (Option ℕ)) (after : List (Option Label)) (then_waits : List (Option ℕ))
+    → labels ≡ replicate n None → queue ≡ replicate n None → x.seconds ≡ 0 → IsMarked labels queue after then_waits from x → IsSearch rows from bound after then_waits
+search_first rows from bound n x labels queue after then_waits labels_none queue_none zero m =
     let absent : (u : ℕ) (y : Label) → HasLabel labels u y → ⊥ = λ u y label. entry_none n u y (ap (λ (ls : List (Option Label)). key_at ls u) (sym labels_none) ∙ label.is) in
     let idle : (u k : ℕ) → Waits queue u k → ⊥ = λ u k is. entry_none n u k (ap (λ (ks : List (Option ℕ)). key_at ks u) (sym queue_none) ∙ is) in
     let many : length queue ≡ length labels = ap length queue_none ∙ length-replicate {A = Option ℕ} n None ∙ sym (ap length labels_none ∙ length-replicate {A = Option Label} n None) in
@@ -334,35 +338,115 @@ search_first rows from n x labels queue after then_waits labels_none queue_none 
       ];
     }
 
+-- the first vertex alone has a label, and it waits
+pub first_waits : (from n : ℕ) (x : Label) (labels : List (Option Label)) (queue : List (Option ℕ)) (after : List (Option Label)) (then_waits : List (Option ℕ))
+    → labels ≡ replicate n None → IsMarked labels queue after then_waits from x → (v : ℕ) (y : Label) → HasLabel after v y → Waits then_waits v y.seconds
+first_waits from n x labels queue after then_waits labels_none m v y label = elim (m.only v y label) [
+  | inl was ↦ absurd (entry_none n v y (ap (λ (ls : List (Option Label)). key_at ls v) (sym labels_none) ∙ was.0.is))
+  | inr now ↦
+      subst (λ (k : ℕ). Waits then_waits k y.seconds) (sym now.0) (subst (λ (z : Label). Waits then_waits from z.seconds) (sym now.1.0) now.1.1)
+]
+
+-- less is looked for
+pub search_lower : (rows : Rows) (from bound less : ℕ) (labels : List (Option Label)) (queue : List (Option ℕ)) → less ≤ bound
+    → IsSearch rows from bound labels queue → IsSearch rows from less labels queue
+search_lower rows from bound less labels queue le search = record {
+  sound = search.sound;
+  closed = λ v x label. elim (search.closed v x label) [
+    | inl waits ↦ inl waits
+    | inr (inl closed) ↦ inr (inl closed)
+    | inr (inr far) ↦ inr (inr (omega (arith, le, far)))
+  ];
+}
+
+-- what waits is too far, and no longer waits
+pub search_stopped : (rows : Rows) (from bound n : ℕ) (labels : List (Option Label)) (queue : List (Option ℕ)) → n ≡ length queue
+    → ((v s : ℕ) → Waits queue v s → bound ≤ s) → IsSearch rows from bound labels queue → IsSearch rows from bound labels (replicate n None)
+search_stopped rows from bound n labels queue many far search = record {
+  sound = record {
+    room = length-replicate {A = Option ℕ} n None ∙ many ∙ search.sound.room;
+    sums = search.sound.sums;
+    comes = search.sound.comes;
+    start = search.sound.start;
+    waits = λ v s is. absurd (entry_none n v s is);
+  };
+  closed = λ v x label. elim (search.closed v x label) [
+    | inl waits ↦ inr (inr (far v x.seconds waits))
+    | inr done ↦ inr done
+  ];
+}
+
+-- no key is less than the least
+pub least_far : (bound : ℕ) (queue : List (Option ℕ)) (at least : ℕ) → bound ≤ least → IsLeastKey nat_cmp queue at least → (v s : ℕ) → Waits queue v s → bound ≤ s
+least_far bound queue at least le is v s waits = elim (cases_lt s least) [
+  | inl lt ↦
+      let greater : Greater ≡ nat_cmp least s = nat_cmp_is least s Greater lt in
+      elim (is.least v s waits) [
+        | inl less ↦ let e : Greater ≡ Less = greater ∙ less in absurd (cc)
+        | inr same ↦ let e : Greater ≡ Equal = greater ∙ same.0 in absurd (cc)
+      ]
+  | inr ge ↦ omega (arith, ge, le)
+]
+
+pub less_stopped : (labels : List (Option Label)) (queue : List (Option ℕ)) (n : ℕ) → work_left labels (replicate n None) ≤ work_left labels queue
+less_stopped labels queue n = omega (arith, sum_by-replicate waiting n None)
+
+-- no label rises
+
+pub onward_same : (labels : List (Option Label)) (queue : List (Option ℕ)) → IsOnward labels queue labels queue
+onward_same labels queue = record { falls = λ u m has. has; only = λ u y label. inl (label, λ k is. is) }
+
+pub onward_marked : (labels : List (Option Label)) (queue : List (Option ℕ)) (some : List (Option Label)) (some_wait : List (Option ℕ)) (after : List (Option Label)) (then_waits : List (Option ℕ))
+    (w : ℕ) (x : Label) → IsOnward labels queue some some_wait → IsMarked some some_wait after then_waits w x → IsOnward labels queue after then_waits
+onward_marked labels queue some some_wait after then_waits w x before m = record {
+  falls = λ u l has. m.falls u l (before.falls u l has);
+  only = λ u y label. elim (m.only u y label) [
+    | inl was ↦ elim (before.only u y was.0) [
+      | inl first ↦ inl (first.0, λ k is. was.1 k (first.1 k is))
+      | inr waits ↦ inr (was.1 y.seconds waits)
+    ]
+    | inr now ↦
+        inr (subst (λ (n : ℕ). Waits then_waits n y.seconds) (sym now.0) (subst (λ (z : Label). Waits then_waits w z.seconds) (sym now.1.0) now.1.1))
+  ];
+}
+
 -- no vertex waits
-module _ (rows : Rows) (from : ℕ) (labels : List (Option Label)) (queue : List (Option ℕ)) (search : IsSearch rows from labels queue) (empty : IsEmpty queue) where
-  closed_all : (v : ℕ) (x : Label) → HasLabel labels v x → IsClosed rows labels v x.seconds
-  closed_all v x label = elim (search.closed v x label) [
+module _ (rows : Rows) (from bound : ℕ) (labels : List (Option Label)) (queue : List (Option ℕ)) (search : IsSearch rows from bound labels queue) (empty : IsEmpty queue) where
+  closed_near : (v : ℕ) (x : Label) → HasLabel labels v x → x.seconds < bound → IsClosed rows labels v x.seconds
+  closed_near v x label near = elim (search.closed v x label) [
     | inl waits ↦ absurd (some_or_none x.seconds (sym (empty v) ∙ waits))
-    | inr closed ↦ closed
+    | inr (inl closed) ↦ closed
+    | inr (inr far) ↦ absurd (omega (arith, near, far))
   ]
 
-  onward : {a b m : ℕ} → IsSum (HasHalf rows) a b m → (l : ℕ) → HasWithin labels a l → HasWithin labels b (l + m)
-  onward none l has = record { x = has.x; label = has.label; within = omega (arith, has.within) }
-  onward {a} {b} {m} (more {v = v} {l = k} {m = n} arc rest) l has =
-      let next : HasWithin labels v (has.x.seconds + k) = closed_all a has.x has.label v k arc in
-      let last : HasWithin labels b (has.x.seconds + k + n) = onward rest (has.x.seconds + k) next in
+  onward_near : {a b m : ℕ} → IsSum (HasHalf rows) a b m → (l : ℕ) → l + m < bound → HasWithin labels a l → HasWithin labels b (l + m)
+  onward_near none l near has = record { x = has.x; label = has.label; within = omega (arith, has.within) }
+  onward_near {a} {b} {m} (more {v = v} {l = k} {m = n} arc rest) l near has =
+      let next : HasWithin labels v (has.x.seconds + k) = closed_near a has.x has.label (omega (arith, has.within, near)) v k arc in
+      let last : HasWithin labels b (has.x.seconds + k + n) = onward_near rest (has.x.seconds + k) (omega (arith, has.within, near)) next in
       record { x = last.x; label = last.label; within = omega (arith, last.within, has.within) }
 
-  all_labelled : (v m : ℕ) → IsSum (HasHalf rows) from v m → HasWithin labels v m
-  all_labelled v m sum = let has = onward sum 0 search.sound.start in record { x = has.x; label = has.label; within = omega (arith, has.within) }
+  pub labelled_near : (v m : ℕ) → m < bound → IsSum (HasHalf rows) from v m → HasWithin labels v m
+  labelled_near v m near sum =
+      let has = onward_near sum 0 (omega (arith, near)) search.sound.start in
+      record { x = has.x; label = has.label; within = omega (arith, has.within) }
 
-  pub least_from : IsLeastFrom (HasHalf rows) from labels
-  least_from = record {
-    least = λ v x label. record {
-      attained = search.sound.sums v x label;
-      least = λ m sum.
-          let has : HasWithin labels v m = all_labelled v m sum in
-          omega (arith, has.within, ap (λ (y : Label). y.seconds) (label_same labels v x has.x label has.label));
-    };
-    all = all_labelled;
-    comes = search.sound.comes;
-  }
+-- and nothing is too far
+pub least_from : (rows : Rows) (places : ℕ) (c : Climbs rows places) (from : ℕ) (labels : List (Option Label)) (queue : List (Option ℕ))
+    → IsSearch rows from 18446744073709551615 labels queue → IsEmpty queue → IsLeastFrom (HasHalf rows) from labels
+least_from rows places c from labels queue search empty =
+    let all_labelled : (v m : ℕ) → IsSum (HasHalf rows) from v m → HasWithin labels v m = λ v m sum.
+    labelled_near rows from 18446744073709551615 labels queue search empty v m (omega (arith, few_seconds rows places c sum)) sum in
+    record {
+      least = λ v x label. record {
+        attained = search.sound.sums v x label;
+        least = λ m sum.
+            let has : HasWithin labels v m = all_labelled v m sum in
+            omega (arith, has.within, ap (λ (y : Label). y.seconds) (label_same labels v x has.x label has.label));
+      };
+      all = all_labelled;
+      comes = search.sound.comes;
+    }
 
 pub none_waits : (queue : List (Option ℕ)) (n : ℕ) → length queue ≡ n → IsEmpty queue → queue ≡ replicate n None
 none_waits queue n many empty =
@@ -375,9 +459,9 @@ pub record IsNear (rows : Rows) (places : ℕ) (from v s : ℕ) (half : Half) : 
   pub to : half.to.0 < places
   pub few : s + half.seconds ≤ 4000000000000000000
 
-near_at : (rows : Rows) (places : ℕ) (c : Climbs rows places) (from v s i j : ℕ) (d : Half) (labels : List (Option Label)) (queue : List (Option ℕ))
-    → v + 1 < length rows.first.items → i < length (row_of rows v) → IsGoing rows from v s j labels queue → IsNear rows places from v s (slice_index_or (row_of rows v) i d)
-near_at rows places c from v s i j d labels queue exists lt going =
+near_at : (rows : Rows) (places : ℕ) (c : Climbs rows places) (from bound v s i j : ℕ) (d : Half) (labels : List (Option Label)) (queue : List (Option ℕ))
+    → v + 1 < length rows.first.items → i < length (row_of rows v) → IsGoing rows from bound v s j labels queue → IsNear rows places from v s (slice_index_or (row_of rows v) i d)
+near_at rows places c from bound v s i j d labels queue exists lt going =
     let half : HasHalf rows v (slice_index_or (row_of rows v) i d).to.0 (slice_index_or (row_of rows v) i d).seconds = half_stands rows v i d exists lt in
     let sum : IsSum (HasHalf rows) from (slice_index_or (row_of rows v) i d).to.0 (going.here.0.seconds + (slice_index_or (row_of rows v) i d).seconds) =
     IsSum-append (going.sound.sums v going.here.0 going.here.1.0) (IsSum-one half) in
@@ -386,27 +470,27 @@ near_at rows places c from v s i j d labels queue exists lt going =
       few = omega (arith, few_seconds rows places c sum, going.here.1.1);
     }
 
-pub near : (rows : Rows) (places : ℕ) (c : Climbs rows places) (from v s i j : ℕ) (d : Half) (labels : List (Option Label)) (queue : List (Option ℕ)) (row : List Half)
-    → row ≡ row_of rows v → v + 1 < length rows.first.items → i < length row → IsGoing rows from v s j labels queue → IsNear rows places from v s (slice_index_or row i d)
-near rows places c from v s i j d labels queue row e exists lt going =
+pub near : (rows : Rows) (places : ℕ) (c : Climbs rows places) (from bound v s i j : ℕ) (d : Half) (labels : List (Option Label)) (queue : List (Option ℕ)) (row : List Half)
+    → row ≡ row_of rows v → v + 1 < length rows.first.items → i < length row → IsGoing rows from bound v s j labels queue → IsNear rows places from v s (slice_index_or row i d)
+near rows places c from bound v s i j d labels queue row e exists lt going =
     subst (λ (r : List Half). IsNear rows places from v s (slice_index_or r i d)) (sym e)
-    (near_at rows places c from v s i j d labels queue exists (subst (λ (r : List Half). i < length r) e lt) going)
+    (near_at rows places c from bound v s i j d labels queue exists (subst (λ (r : List Half). i < length r) e lt) going)
 
-pub going_more : (rows : Rows) (places : ℕ) (c : Climbs rows places) (from s i : ℕ) (at : NodeNo) (d : Half) (labels : List (Option Label)) (queue : List (Option ℕ)) (row : List Half)
+pub going_more : (rows : Rows) (places : ℕ) (c : Climbs rows places) (from bound s i : ℕ) (at : NodeNo) (d : Half) (labels : List (Option Label)) (queue : List (Option ℕ)) (row : List Half)
     → row ≡ row_of rows at.0 → at.0 + 1 < length rows.first.items → i < length row → length labels ≡ places
-    → IsGoing rows from at.0 s i labels queue
-    → IsGoing rows from at.0 s (i + 1)
+    → IsGoing rows from bound at.0 s i labels queue
+    → IsGoing rows from bound at.0 s (i + 1)
     (labels_with labels (slice_index_or row i d).to.0 (record { seconds = s + (slice_index_or row i d).seconds; parent = at }))
     (queue_with labels queue (slice_index_or row i d).to.0 (record { seconds = s + (slice_index_or row i d).seconds; parent = at }))
-going_more rows places c from s i at d labels queue row e exists lt many going =
-    subst (λ (r : List Half). IsGoing rows from at.0 s (i + 1)
+going_more rows places c from bound s i at d labels queue row e exists lt many going =
+    subst (λ (r : List Half). IsGoing rows from bound at.0 s (i + 1)
     (labels_with labels (slice_index_or r i d).to.0 (record { seconds = s + (slice_index_or r i d).seconds; parent = at }))
     (queue_with labels queue (slice_index_or r i d).to.0 (record { seconds = s + (slice_index_or r i d).seconds; parent = at }))) (sym e)
     (let low : i < length (row_of rows at.0) = subst (λ (r : List Half). i < length r) e lt in
     let h : Half = slice_index_or (row_of rows at.0) i d in
     let x : Label = record { seconds = s + (slice_index_or (row_of rows at.0) i d).seconds; parent = at } in
-    let n = near_at rows places c from at.0 s i i d labels queue exists low going in
-    going_marked rows (λ p q l half same. omega (arith, c.climbs p q l half, ap c.rank same)) from at.0 s i d x labels queue
+    let n = near_at rows places c from bound at.0 s i i d labels queue exists low going in
+    going_marked rows (λ p q l half same. omega (arith, c.climbs p q l half, ap c.rank same)) from bound at.0 s i d x labels queue
     (labels_with labels (slice_index_or (row_of rows at.0) i d).to.0 x) (queue_with labels queue (slice_index_or (row_of rows at.0) i d).to.0 x)
     (half_stands rows at.0 i d exists low) low refl refl going
     (marked labels queue (slice_index_or (row_of rows at.0) i d).to.0 x (omega (arith, n.to, many)) going.sound.room (omega (arith, n.few))))

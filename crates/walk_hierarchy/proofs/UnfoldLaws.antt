@@ -15,7 +15,7 @@ use Rattle.walk_hierarchy.specs.declared.labels.Label.{Label}
 use Rattle.walk_laws.specs.Sums.{IsSum, IsLeast}
 use Rattle.walk_laws.specs.Sums.IsSum.{none as no_arcs}
 use Rattle.walk_hierarchy.specs.Hierarchy.{Parts, IsNode, rank_of, HasArc, IsArcUp, IsArcDown, IsBefore, IsAdded, IsMade, IsHierarchy, IsLeastStreet, IsOver, IsUpDownSum, GivesDistances, IsWayOver, IsShortestWalk}
-use Rattle.walk_hierarchy.specs.Labels.{HasLabel, IsLeastFrom}
+use Rattle.walk_hierarchy.specs.Labels.{HasLabel, AreSums}
 use Rattle.walk_hierarchy.specs.Meeting.{IsArcBack}
 use Rattle.walk_hierarchy.specs.Unfolding.{IsArcOf, IsStack, IsUnfolding}
 use Rattle.walk_hierarchy.specs.Unfolding.IsStack.{none, more}
@@ -292,30 +292,36 @@ module _ (h : Parts) where
 
 -- along the parents of labels
 
-pub record IsStep (arc : ℕ → ℕ → ℕ → Type 0) (labels : List (Option Label)) (v : ℕ) (x : Label) : Type 0 where
+pub record IsStep (arc : ℕ → ℕ → ℕ → Type 0) (from : ℕ) (labels : List (Option Label)) (v : ℕ) (x : Label) : Type 0 where
   pub y : Label
   pub k : ℕ
   pub before : HasLabel labels x.parent.0 y
+  pub least : IsLeast (IsSum arc from x.parent.0) y.seconds
   pub leads : arc x.parent.0 v k
   pub exact : y.seconds + k ≡ x.seconds
 
 pub step_back : (arc : ℕ → ℕ → ℕ → Type 0) (from : ℕ) (labels : List (Option Label)) (v : ℕ) (x : Label)
-    → IsLeastFrom arc from labels → HasLabel labels v x → v ≢ from → IsStep arc labels v x
-step_back arc from labels v x is has ne = elim (is.comes v x has) [
+    → AreSums arc from labels → HasLabel labels v x → IsLeast (IsSum arc from v) x.seconds → v ≢ from → IsStep arc from labels v x
+step_back arc from labels v x is has least ne = elim (is.comes v x has) [
   | inl first ↦ absurd (ne first.0)
   | inr via ↦
-      let sum : IsSum arc from v (via.y.seconds + via.k) = IsSum-append (is.least x.parent.0 via.y via.before).attained (IsSum-one via.leads) in
+      let sum : IsSum arc from x.parent.0 via.y.seconds = is.sums x.parent.0 via.y via.before in
+      let exact : via.y.seconds + via.k ≡ x.seconds = omega (arith, via.within, least.least (via.y.seconds + via.k) (IsSum-append sum (IsSum-one via.leads))) in
       record {
         y = via.y;
         k = via.k;
         before = via.before;
+        least = record {
+          attained = sum;
+          least = λ n other. omega (arith, exact, least.least (n + via.k) (IsSum-append other (IsSum-one via.leads)));
+        };
         leads = via.leads;
-        exact = omega (arith, via.within, (is.least v x has).least (via.y.seconds + via.k) sum);
+        exact = exact;
       }
 ]
 
-pub first_zero : (arc : ℕ → ℕ → ℕ → Type 0) (from : ℕ) (labels : List (Option Label)) (x : Label) → IsLeastFrom arc from labels → HasLabel labels from x → x.seconds ≡ 0
-first_zero arc from labels x is has = omega (arith, (is.least from x has).least 0 no_arcs)
+pub first_zero : (arc : ℕ → ℕ → ℕ → Type 0) (from s : ℕ) → IsLeast (IsSum arc from from) s → s ≡ 0
+first_zero arc from s is = omega (arith, is.least 0 no_arcs)
 
 -- the walk at its first vertex
 pub unfolding_first : (graph : Streets) (h : Parts) (over : IsOver graph h) (a top : NodeNo) (m : ℕ) (stack : List UpDown) (walk : List NodeNo)
@@ -392,26 +398,27 @@ pub stack_start : (xs : List UpDown) (p : NodeNo) → xs ≡ [] → IsStack xs p
 stack_start xs p e = subst (λ (ys : List UpDown). IsStack ys p p 0) (sym e) none
 
 -- the arc of a parent, with the label of the parent
-pub record IsParent (labels : List (Option Label)) (x : Label) (arc : UpDown) : Type 0 where
+pub record IsParent (way : ℕ → ℕ → ℕ → Type 0) (from : ℕ) (labels : List (Option Label)) (x : Label) (arc : UpDown) : Type 0 where
   pub y : Label
   pub before : HasLabel labels x.parent.0 y
+  pub least : IsLeast (IsSum way from x.parent.0) y.seconds
   pub exact : y.seconds + arc.seconds ≡ x.seconds
 
 module _ (h : Parts) (rules : IsHierarchy h) (labels : List (Option Label)) (at : NodeNo) (x : Label) (arc : UpDown) where
-  pub parent_up : (from : NodeNo) → IsLeastFrom (HasArc h.up) from.0 labels → HasLabel labels at.0 x → at.0 ≢ from.0
-      → Contains h.up arc → arc.from ≡ x.parent → arc.to ≡ at → IsParent labels x arc
-  parent_up from least has ne stands begins ends =
-      let step = step_back (HasArc h.up) from.0 labels at.0 x least has ne in
+  pub parent_up : (from : NodeNo) → AreSums (HasArc h.up) from.0 labels → HasLabel labels at.0 x → IsLeast (IsSum (HasArc h.up) from.0 at.0) x.seconds → at.0 ≢ from.0
+      → Contains h.up arc → arc.from ≡ x.parent → arc.to ≡ at → IsParent (HasArc h.up) from.0 labels x arc
+  parent_up from sums has least ne stands begins ends =
+      let step = step_back (HasArc h.up) from.0 labels at.0 x sums has least ne in
       let same : step.k ≡ arc.seconds =
       seconds_up h rules arc step.k stands
       (subst (λ (v : NodeNo). HasArc h.up v.0 arc.to.0 step.k) (sym begins) (subst (λ (v : NodeNo). HasArc h.up x.parent.0 v.0 step.k) (sym ends) step.leads)) in
-      record { y = step.y; before = step.before; exact = omega (arith, same, step.exact) }
+      record { y = step.y; before = step.before; least = step.least; exact = omega (arith, same, step.exact) }
 
-  pub parent_down : (to : NodeNo) → IsLeastFrom (IsArcBack h.down) to.0 labels → HasLabel labels at.0 x → at.0 ≢ to.0
-      → Contains h.down arc → arc.from ≡ at → arc.to ≡ x.parent → IsParent labels x arc
-  parent_down to least has ne stands begins ends =
-      let step = step_back (IsArcBack h.down) to.0 labels at.0 x least has ne in
+  pub parent_down : (to : NodeNo) → AreSums (IsArcBack h.down) to.0 labels → HasLabel labels at.0 x → IsLeast (IsSum (IsArcBack h.down) to.0 at.0) x.seconds → at.0 ≢ to.0
+      → Contains h.down arc → arc.from ≡ at → arc.to ≡ x.parent → IsParent (IsArcBack h.down) to.0 labels x arc
+  parent_down to sums has least ne stands begins ends =
+      let step = step_back (IsArcBack h.down) to.0 labels at.0 x sums has least ne in
       let same : step.k ≡ arc.seconds =
       seconds_down h rules arc step.k stands
       (subst (λ (v : NodeNo). HasArc h.down v.0 arc.to.0 step.k) (sym begins) (subst (λ (v : NodeNo). HasArc h.down at.0 v.0 step.k) (sym ends) step.leads)) in
-      record { y = step.y; before = step.before; exact = omega (arith, same, step.exact) }
+      record { y = step.y; before = step.before; least = step.least; exact = omega (arith, same, step.exact) }

@@ -3,6 +3,8 @@
 --     HasWithin labels v m       the vertex v has a label of at most m seconds
 --     IsVia arc labels v x       the label x of v came along an arc from a vertex with a label
 --     IsLeastFrom arc from labels    the vertices with labels are those to which arcs lead, and the labels are least
+--     AreSums arc from labels    each label is a sum, and came along an arc from another one unless it is the first
+--     HasLeastLabel arc from labels v    the label of v is the least sum
 --     Meets up down v m          two searches meet at v, with m seconds together
 --     lowers x held              whether the label x has fewer seconds than the label held, or none is held
 --     AreListed labels entries   the entries are the labels
@@ -35,6 +37,15 @@ pub record IsLeastFrom (arc : ℕ → ℕ → ℕ → Type 0) (from : ℕ) (labe
   pub least : (v : ℕ) (x : Label) → HasLabel labels v x → IsLeast (IsSum arc from v) x.seconds
   pub all : (v m : ℕ) → IsSum arc from v m → HasWithin labels v m
   pub comes : (v : ℕ) (x : Label) → HasLabel labels v x → ((v ≡ from) × (x.seconds ≡ 0)) ⊎ IsVia arc labels v x
+
+pub record AreSums (arc : ℕ → ℕ → ℕ → Type 0) (from : ℕ) (labels : List (Option Label)) : Type 0 where
+  pub sums : (v : ℕ) (x : Label) → HasLabel labels v x → IsSum arc from v x.seconds
+  pub comes : (v : ℕ) (x : Label) → HasLabel labels v x → ((v ≡ from) × (x.seconds ≡ 0)) ⊎ IsVia arc labels v x
+
+pub record HasLeastLabel (arc : ℕ → ℕ → ℕ → Type 0) (from : ℕ) (labels : List (Option Label)) (v : ℕ) : Type 0 where
+  pub x : Label
+  pub has : HasLabel labels v x
+  pub least : IsLeast (IsSum arc from v) x.seconds
 
 -- some vertex has labels of a search up and of a search down, with these seconds together
 pub record Meets (up down : List (Option Label)) (v seconds : ℕ) : Type 0 where

@@ -1,8 +1,10 @@
 -- A search along rows, from one vertex.
 --     HasHalf rows p q l         the row of p leads to q in l seconds
 --     Climbs rows places         the rows lead to greater ranks alone, in few seconds
---     IsSearch rows from labels queue          what holds between two steps of a search
---     IsGoing rows from v s i labels queue     what holds while v, of s seconds, is left along the first i arcs of its row
+--     IsDone rows bound labels queue v s       v, of s seconds, waits, or its arcs are done, or s is not below the bound
+--     IsSearch rows from bound labels queue    what holds between two steps of a search of what is below the bound
+--     IsGoing rows from bound v s i labels queue   what holds while v, of s seconds, is left along the first i arcs of its row
+--     IsOnward labels queue after then_waits   no label rises, and one that is new or lower waits
 --     work_left labels queue     falls with each step
 use Rattle.std.specs.Prelude.{◌≡◌, ◌≢◌, ℕ, ◌+◌, ◌-◌, ◌*◌, ◌<◌, ◌≤◌, ◌⊎◌, if◌then◌else◌, is_some, List, Option, Some, None, length, slice_index, slice_index_or, slice_set, take, drop, Contains}
 use Rattle.std.specs.List.{sum_by}
@@ -49,15 +51,23 @@ pub record IsSound (rows : Rows) (from : ℕ) (labels : List (Option Label)) (qu
   pub start : HasWithin labels from 0
   pub waits : (v s : ℕ) → Waits queue v s → (x : Label) × (HasLabel labels v x × (x.seconds ≡ s))
 
-pub record IsSearch (rows : Rows) (from : ℕ) (labels : List (Option Label)) (queue : List (Option ℕ)) : Type 0 where
-  pub sound : IsSound rows from labels queue
-  pub closed : (v : ℕ) (x : Label) → HasLabel labels v x → Waits queue v x.seconds ⊎ IsClosed rows labels v x.seconds
+abbrev pub IsDone : Rows → ℕ → List (Option Label) → List (Option ℕ) → ℕ → ℕ → Type 0
+IsDone rows bound labels queue v s = Waits queue v s ⊎ (IsClosed rows labels v s ⊎ (bound ≤ s))
 
-pub record IsGoing (rows : Rows) (from v s i : ℕ) (labels : List (Option Label)) (queue : List (Option ℕ)) : Type 0 where
+pub record IsSearch (rows : Rows) (from bound : ℕ) (labels : List (Option Label)) (queue : List (Option ℕ)) : Type 0 where
+  pub sound : IsSound rows from labels queue
+  pub closed : (v : ℕ) (x : Label) → HasLabel labels v x → IsDone rows bound labels queue v x.seconds
+
+pub record IsGoing (rows : Rows) (from bound v s i : ℕ) (labels : List (Option Label)) (queue : List (Option ℕ)) : Type 0 where
   pub sound : IsSound rows from labels queue
   pub here : (x : Label) × (HasLabel labels v x × (x.seconds ≡ s))
-  pub others : (u : ℕ) (x : Label) → u ≢ v → HasLabel labels u x → Waits queue u x.seconds ⊎ IsClosed rows labels u x.seconds
+  pub others : (u : ℕ) (x : Label) → u ≢ v → HasLabel labels u x → IsDone rows bound labels queue u x.seconds
   pub passed : (k : ℕ) (d : Half) → k < i → HasWithin labels (slice_index_or (row_of rows v) k d).to.0 (s + (slice_index_or (row_of rows v) k d).seconds)
+
+pub record IsOnward (labels : List (Option Label)) (queue : List (Option ℕ)) (after : List (Option Label)) (then_waits : List (Option ℕ)) : Type 0 where
+  pub falls : (u m : ℕ) → HasWithin labels u m → HasWithin after u m
+  pub only : (u : ℕ) (y : Label) → HasLabel after u y
+      → (HasLabel labels u y × ((k : ℕ) → Waits queue u k → Waits then_waits u k)) ⊎ Waits then_waits u y.seconds
 
 abbrev pub weight : Option Label → ℕ
 weight None = 18446744073709551616

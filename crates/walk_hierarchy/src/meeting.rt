@@ -1,16 +1,20 @@
 // The least sum of arcs up and arcs down between two vertices.
-ghost use Rattle.std.specs.Prelude.{◌≡◌, ◌+◌, ◌-◌, ◌<◌, ◌≤◌, ℕ, List, Option, None, length, replicate, [], ◌∷◌, ◌++◌};
-ghost use Rattle.move_model.specs.Streets.{Streets, HasDistance};
+ghost use Rattle.std.specs.Prelude.{◌≡◌, ◌+◌, ◌-◌, ◌<◌, ◌≤◌, ◌⊎◌, ◌↔◌, ℕ, List, Option, None, length, replicate, [], IsTrue};
 ghost use Rattle.std.specs.Option.{option_map};
+ghost use Rattle.move_model.specs.Streets.{Streets, HasDistance};
 ghost use Rattle.walk_laws.specs.Sums.{HasLeast};
+ghost use Rattle.walk_queue.specs.Keys.{IsEmpty};
 ghost use Rattle.walk_hierarchy.specs.declared.labels.Label.{Label};
-ghost use Rattle.walk_hierarchy.specs.Labels.{HasLabel, IsLeastFrom};
+ghost use Rattle.walk_hierarchy.specs.declared.rows.Rows.{Rows};
+ghost use Rattle.walk_hierarchy.specs.Labels.{HasLabel, AreSums};
 ghost use Rattle.walk_hierarchy.specs.Hierarchy.{IsNode, IsHierarchy, HasArc, IsUpDownSum, GivesDistances};
-ghost use Rattle.walk_hierarchy.specs.Meeting.{IsArcBack, IsBest, IsBestOfAll};
+ghost use Rattle.walk_hierarchy.specs.Search.{HasHalf, Climbs, work_left};
+ghost use Rattle.walk_hierarchy.specs.Meeting.{IsArcBack, HasBest, IsBoth, IsBetter, bound_of};
 
 use crate::hierarchy::Hierarchy;
 use crate::labels::Labels;
-use crate::search::search;
+use crate::rows::Rows;
+use crate::search::{begin, leave};
 use crate::work::Work;
 use move_model::NodeNo;
 use std::sync::ledger::Ledger;
@@ -24,38 +28,111 @@ pub(crate) struct Meeting {
     pub(crate) node: NodeNo,
 }
 
-// The best so far, and by way of this vertex.
+// The seconds that a better meeting has to be below.
 #[inline]
-fn better(best: Option<Meeting>, up: &Labels, down: &Labels, node: NodeNo) -> Option<Meeting>
-    requires up { node.0 < length up.now }
-    requires down { node.0 < length down.now }
-    requires up_few { (v : ℕ) (x : Label) → HasLabel up.now v x → x.seconds ≤ 4000000000000000000 }
-    requires down_few { (v : ℕ) (x : Label) → HasLabel down.now v x → x.seconds ≤ 4000000000000000000 }
-    ensures { (nodes : List NodeNo) → IsBest up.now down.now nodes best → IsBest up.now down.now (nodes ++ node ∷ []) result }
+fn bound(best: Option<Meeting>) -> u64
+    ensures { result ≡ bound_of best }
 {
-    let Some(there) = up.get(node) else {
-        return best;
-    };
-    let Some(back) = down.get(node) else {
-        return best;
-    };
-    let seconds = there.seconds + back.seconds;
     match best {
-        Some(held) if held.seconds <= seconds => best,
-        _ => Some(Meeting { seconds, node }),
+        Some(meeting) => meeting.seconds,
+        None => u64::MAX,
     }
 }
 
-// Where two searches meet with the fewest seconds together.
-fn best_meeting(up: &Labels, down: &Labels) -> Option<Meeting>
-    requires same { length up.now ≡ length down.now }
-    requires up_few { (v : ℕ) (x : Label) → HasLabel up.now v x → x.seconds ≤ 4000000000000000000 }
-    requires down_few { (v : ℕ) (x : Label) → HasLabel down.now v x → x.seconds ≤ 4000000000000000000 }
-    ensures { IsBestOfAll up.now down.now result }
+// The best so far, or at this vertex, which one search came to in so many seconds.
+#[inline]
+fn better(best: Option<Meeting>, others: &Labels, node: NodeNo, seconds: u64) -> Option<Meeting>
+    requires exists { node.0 < length others.now }
+    requires few { seconds ≤ 4000000000000000000 }
+    requires others_few { (v : ℕ) (x : Label) → HasLabel others.now v x → x.seconds ≤ 4000000000000000000 }
+    ensures { IsBetter others.now node.0 seconds best result }
 {
+    let Some(there) = others.get(node) else {
+        return best;
+    };
+    let total = seconds + there.seconds;
+    if bound(best) <= total {
+        return best;
+    }
+    Some(Meeting {
+        seconds: total,
+        node,
+    })
+}
+
+// Goes on along the arcs of the vertex that waits with the least seconds. Where those are no fewer than the best
+// meeting's, no vertex needs to wait any longer, since seconds only grow along arcs.
+fn step(
+    rows: &Rows,
+    labels: &mut Labels,
+    queue: &mut MinQueue<u64>,
+    others: &Labels,
+    best: Option<Meeting>,
+) -> Option<Meeting>
+    requires climbs { Climbs rows.now (length labels.old) }
+    requires same { length others.now ≡ length labels.old }
+    requires both { (other : Rows) × ((from : ℕ) × ((to : ℕ) × ((waiting : List (Option ℕ)) ×
+        IsBoth rows.now other from to best labels.old queue.old others.now waiting))) }
+    requires others_few { (v : ℕ) (x : Label) → HasLabel others.now v x → x.seconds ≤ 4000000000000000000 }
+    ensures both { (other : Rows) (from to : ℕ) (waiting : List (Option ℕ)) → IsBoth rows.now other from to best labels.old queue.old others.now waiting
+        → IsBoth rows.now other from to result labels.new queue.new others.now waiting }
+    ensures work { work_left labels.new queue.new ≤ work_left labels.old queue.old }
+    ensures less { IsEmpty queue.old ⊎ (work_left labels.new queue.new < work_left labels.old queue.old) }
+    ensures many { length labels.new ≡ length labels.old }
+{
+    let Some((at, seconds)) = queue.take_least() else {
+        return best;
+    };
+    if bound(best) <= seconds {
+        queue.clear();
+        return best;
+    }
+    let best = better(best, others, NodeNo(at), seconds);
+    leave(rows, NodeNo(at), seconds, labels, queue);
+    best
+}
+
+fn none_wait(queue: &MinQueue<u64>, other: &MinQueue<u64>) -> bool
+    ensures { IsTrue result ↔ (IsEmpty queue.now × IsEmpty other.now) }
+{
+    queue.is_empty() && other.is_empty()
+}
+
+// Searches along rows from one vertex and along others from another, by turns, and finds where they meet with the fewest
+// seconds together.
+fn meet_between(
+    rows: &Rows,
+    other: &Rows,
+    from: NodeNo,
+    to: NodeNo,
+    labels: &mut Labels,
+    queue: &mut MinQueue<u64>,
+    others: &mut Labels,
+    waiting: &mut MinQueue<u64>,
+) -> Option<Meeting>
+    requires climbs { Climbs rows.now (length labels.old) }
+    requires other_climbs { Climbs other.now (length labels.old) }
+    requires from { from.0 < length labels.old }
+    requires to { to.0 < length labels.old }
+    requires same { length others.old ≡ length labels.old }
+    requires labels { labels.old ≡ replicate (length labels.old) None }
+    requires queue { queue.old ≡ replicate (length labels.old) None }
+    requires others { others.old ≡ replicate (length labels.old) None }
+    requires waiting { waiting.old ≡ replicate (length labels.old) None }
+    ensures labels { AreSums (HasHalf rows.now) from.0 labels.new }
+    ensures others { AreSums (HasHalf other.now) to.0 others.new }
+    ensures best { HasBest (HasHalf rows.now) (HasHalf other.now) from.0 to.0 labels.new others.new result }
+    ensures queue { queue.new ≡ queue.old }
+    ensures waiting { waiting.new ≡ waiting.old }
+    ensures many { length labels.new ≡ length labels.old }
+    ensures others_many { length others.new ≡ length labels.old }
+{
+    begin(from, labels, queue);
+    begin(to, others, waiting);
     let mut best = None;
-    for node in up.nodes() {
-        best = better(best, up, down, *node);
+    'both: while !none_wait(queue, waiting) {
+        best = step(rows, labels, queue, others, best);
+        best = step(other, others, waiting, labels, best);
     }
     best
 }
@@ -66,26 +143,29 @@ pub(crate) fn meet(
     a: NodeNo,
     b: NodeNo,
     up: &mut Labels,
+    up_queue: &mut MinQueue<u64>,
     down: &mut Labels,
-    queue: &mut MinQueue<u64>,
+    down_queue: &mut MinQueue<u64>,
 ) -> Option<Meeting>
     requires a { IsNode hierarchy.now a }
     requires b { IsNode hierarchy.now b }
-    requires places { length queue.old ≡ length hierarchy.now.ranks + 1 }
-    requires up_none { up.old ≡ replicate (length queue.old) None }
-    requires down_none { down.old ≡ replicate (length queue.old) None }
-    requires none_waits { queue.old ≡ replicate (length queue.old) None }
-    ensures up { IsLeastFrom (HasArc hierarchy.now.up) a.0 up.new }
-    ensures down { IsLeastFrom (IsArcBack hierarchy.now.down) b.0 down.new }
-    ensures best { IsBestOfAll up.new down.new result }
-    ensures up_places { length up.new ≡ length queue.old }
-    ensures down_places { length down.new ≡ length queue.old }
-    ensures queue { queue.new ≡ queue.old }
+    requires places { length up_queue.old ≡ length hierarchy.now.ranks + 1 }
+    requires up_none { up.old ≡ replicate (length up_queue.old) None }
+    requires down_none { down.old ≡ replicate (length up_queue.old) None }
+    requires none_waits { up_queue.old ≡ replicate (length up_queue.old) None }
+    requires none_waits_back { down_queue.old ≡ replicate (length up_queue.old) None }
+    ensures up { AreSums (HasArc hierarchy.now.up) a.0 up.new }
+    ensures down { AreSums (IsArcBack hierarchy.now.down) b.0 down.new }
+    ensures best { HasBest (HasArc hierarchy.now.up) (IsArcBack hierarchy.now.down) a.0 b.0 up.new down.new result }
+    ensures up_places { length up.new ≡ length up_queue.old }
+    ensures down_places { length down.new ≡ length up_queue.old }
+    ensures up_queue { up_queue.new ≡ up_queue.old }
+    ensures down_queue { down_queue.new ≡ down_queue.old }
     ensures rules { IsHierarchy hierarchy.now }
 {
-    search(hierarchy.ascents(), a, up, queue);
-    search(hierarchy.descents(), b, down, queue);
-    best_meeting(up, down)
+    let ascents = hierarchy.ascents();
+    let descents = hierarchy.descents();
+    meet_between(ascents, descents, a, b, up, up_queue, down, down_queue)
 }
 
 fn seconds_of(meeting: Option<Meeting>) -> Option<u64>
@@ -120,8 +200,9 @@ pub fn distance<L: Ledger>(
         a,
         b,
         &mut work.up,
+        &mut work.up_queue,
         &mut work.down,
-        &mut work.queue,
+        &mut work.down_queue,
     );
     work.up.clear();
     work.down.clear();

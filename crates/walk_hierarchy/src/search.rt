@@ -3,7 +3,8 @@ ghost use Rattle.std.specs.Prelude.{◌≡◌, ◌+◌, ◌≤◌, ◌<◌, ◌-
 ghost use Rattle.walk_queue.specs.Keys.{key_at};
 ghost use Rattle.walk_hierarchy.specs.declared.labels.Label.{Label};
 ghost use Rattle.walk_hierarchy.specs.Labels.{HasLabel, IsLeastFrom};
-ghost use Rattle.walk_hierarchy.specs.Search.{HasHalf, Climbs, Waits, IsGoing, IsSearch, work_left, labels_with, queue_with, row_of};
+ghost use Rattle.walk_hierarchy.specs.declared.rows.Rows.{Rows};
+ghost use Rattle.walk_hierarchy.specs.Search.{HasHalf, Climbs, Waits, IsGoing, IsSearch, IsOnward, work_left, labels_with, queue_with, row_of};
 
 use crate::labels::{Label, Labels};
 use crate::rows::Rows;
@@ -27,10 +28,17 @@ fn mark(labels: &mut Labels, queue: &mut MinQueue<u64>, at: NodeNo, label: Label
 
 // Goes along the arcs of a vertex that no longer waits.
 #[inline]
-fn leave(rows: &Rows, at: NodeNo, seconds: u64, labels: &mut Labels, queue: &mut MinQueue<u64>)
+pub(crate) fn leave(
+    rows: &Rows,
+    at: NodeNo,
+    seconds: u64,
+    labels: &mut Labels,
+    queue: &mut MinQueue<u64>,
+)
     requires climbs { Climbs rows.now (length labels.old) }
-    requires going { (from : ℕ) × IsGoing rows.now from at.0 seconds 0 labels.old queue.old }
-    ensures search { (from : ℕ) → IsGoing rows.now from at.0 seconds 0 labels.old queue.old → IsSearch rows.now from labels.new queue.new }
+    requires going { (from : ℕ) × ((bound : ℕ) × IsGoing rows.now from bound at.0 seconds 0 labels.old queue.old) }
+    ensures search { (from bound : ℕ) → IsGoing rows.now from bound at.0 seconds 0 labels.old queue.old → IsSearch rows.now from bound labels.new queue.new }
+    ensures onward { IsOnward labels.old queue.old labels.new queue.new }
     ensures less { work_left labels.new queue.new ≤ work_left labels.old queue.old }
     ensures many { length labels.new ≡ length labels.old }
 {
@@ -43,6 +51,22 @@ fn leave(rows: &Rows, at: NodeNo, seconds: u64, labels: &mut Labels, queue: &mut
     }
 }
 
+// Lets the first vertex wait, with no seconds.
+pub(crate) fn begin(from: NodeNo, labels: &mut Labels, queue: &mut MinQueue<u64>)
+    requires from { from.0 < length labels.old }
+    requires labels { labels.old ≡ replicate (length labels.old) None }
+    requires queue { queue.old ≡ replicate (length labels.old) None }
+    ensures search { (rows : Rows) (bound : ℕ) → IsSearch rows from.0 bound labels.new queue.new }
+    ensures waits { (v : ℕ) (x : Label) → HasLabel labels.new v x → Waits queue.new v x.seconds }
+    ensures many { length labels.new ≡ length labels.old }
+{
+    let start = Label {
+        seconds: 0,
+        parent: from,
+    };
+    mark(labels, queue, from, start);
+}
+
 // Labels each vertex to which the rows lead with its least seconds.
 pub(crate) fn search(rows: &Rows, from: NodeNo, labels: &mut Labels, queue: &mut MinQueue<u64>)
     requires climbs { Climbs rows.now (length labels.old) }
@@ -53,11 +77,7 @@ pub(crate) fn search(rows: &Rows, from: NodeNo, labels: &mut Labels, queue: &mut
     ensures queue { queue.new ≡ queue.old }
     ensures many { length labels.new ≡ length labels.old }
 {
-    let start = Label {
-        seconds: 0,
-        parent: from,
-    };
-    mark(labels, queue, from, start);
+    begin(from, labels, queue);
     'vertices: while let Some((at, seconds)) = queue.take_least() {
         leave(rows, NodeNo(at), seconds, labels, queue);
     }

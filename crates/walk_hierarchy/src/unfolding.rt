@@ -2,9 +2,9 @@
 ghost use Rattle.std.specs.Prelude.{◌≡◌, ◌≢◌, ◌+◌, ◌-◌, ◌<◌, ◌≤◌, ◌↔◌, ◌⊎◌, ℕ, [], ◌∷◌, length, Contains, All, OnOk, IfOk, IfSome, IsNone, Option};
 ghost use Rattle.move_model.specs.Streets.{Streets};
 ghost use Rattle.walk_hierarchy.specs.declared.labels.Label.{Label};
-ghost use Rattle.walk_hierarchy.specs.Labels.{HasLabel, IsLeastFrom};
+ghost use Rattle.walk_hierarchy.specs.Labels.{HasLabel, AreSums, HasLeastLabel};
 ghost use Rattle.walk_hierarchy.specs.Hierarchy.{IsNode, HasArc, IsHierarchy, IsOver, IsUpDownSum, GivesDistances, IsWayOver, IsShortestWalk};
-ghost use Rattle.walk_hierarchy.specs.Meeting.{IsArcBack, IsBestOfAll};
+ghost use Rattle.walk_hierarchy.specs.Meeting.{IsArcBack, HasBest};
 ghost use Rattle.walk_hierarchy.specs.Unfolding.{IsArcOf, IsStack, IsUnfolding};
 
 use crate::arcs::UpDown;
@@ -65,8 +65,8 @@ fn climb(
     stack: &mut Vec<UpDown>,
 ) -> Result<(), NoMemory>
     requires rules { IsHierarchy hierarchy.now }
-    requires labels { IsLeastFrom (HasArc hierarchy.now.up) from.0 labels.now }
-    requires top { (x : Label) × HasLabel labels.now top.0 x }
+    requires labels { AreSums (HasArc hierarchy.now.up) from.0 labels.now }
+    requires top { HasLeastLabel (HasArc hierarchy.now.up) from.0 labels.now top.0 }
     requires empty { stack.old.items ≡ [] }
     ensures arcs { OnOk result (All (IsArcOf hierarchy.now) stack.new.items) }
     ensures stacked { OnOk result ((x : Label) → HasLabel labels.now top.0 x → IsStack stack.new.items from top x.seconds) }
@@ -90,8 +90,8 @@ fn fall(
     walk: &mut Walk,
 ) -> Result<(), NoMemory>
     requires rules { IsHierarchy hierarchy.now }
-    requires labels { IsLeastFrom (IsArcBack hierarchy.now.down) to.0 labels.now }
-    requires top { (x : Label) × HasLabel labels.now top.0 x }
+    requires labels { AreSums (IsArcBack hierarchy.now.down) to.0 labels.now }
+    requires top { HasLeastLabel (IsArcBack hierarchy.now.down) to.0 labels.now top.0 }
     requires empty { stack.old.items ≡ [] }
     ensures walks { OnOk result ((graph : Streets) (a : NodeNo) (m : ℕ) (x : Label) → IsOver graph hierarchy.now → HasLabel labels.now top.0 x
         → IsUnfolding graph a top m [] walk.old → IsUnfolding graph a to (m + x.seconds) [] walk.new) }
@@ -118,10 +118,10 @@ fn walk_by(
 ) -> Result<Walk, NoMemory>
     requires rules { IsHierarchy hierarchy.now }
     requires a { IsNode hierarchy.now a }
-    requires up { IsLeastFrom (HasArc hierarchy.now.up) a.0 up.now }
-    requires down { IsLeastFrom (IsArcBack hierarchy.now.down) b.0 down.now }
-    requires there { (x : Label) × HasLabel up.now top.0 x }
-    requires back { (x : Label) × HasLabel down.now top.0 x }
+    requires up { AreSums (HasArc hierarchy.now.up) a.0 up.now }
+    requires down { AreSums (IsArcBack hierarchy.now.down) b.0 down.now }
+    requires there { HasLeastLabel (HasArc hierarchy.now.up) a.0 up.now top.0 }
+    requires back { HasLeastLabel (IsArcBack hierarchy.now.down) b.0 down.now top.0 }
     ensures { IfOk result (λ walk. (graph : Streets) (x y : Label) → IsOver graph hierarchy.now → HasLabel up.now top.0 x → HasLabel down.now top.0 y
         → IsUnfolding graph a b (x.seconds + y.seconds) [] walk) }
 {
@@ -147,9 +147,9 @@ fn walk_of(
     requires rules { IsHierarchy hierarchy.now }
     requires a { IsNode hierarchy.now a }
     requires b { IsNode hierarchy.now b }
-    requires up { IsLeastFrom (HasArc hierarchy.now.up) a.0 up.now }
-    requires down { IsLeastFrom (IsArcBack hierarchy.now.down) b.0 down.now }
-    requires best { IsBestOfAll up.now down.now meeting }
+    requires up { AreSums (HasArc hierarchy.now.up) a.0 up.now }
+    requires down { AreSums (IsArcBack hierarchy.now.down) b.0 down.now }
+    requires best { HasBest (HasArc hierarchy.now.up) (IsArcBack hierarchy.now.down) a.0 b.0 up.now down.now meeting }
     ensures none { IfOk result (λ walk. IsNone walk ↔ ((m : ℕ) → IsUpDownSum hierarchy.now a b m → ⊥)) }
     ensures walks { IfOk result (λ found. IfSome found (λ walk. (graph : Streets) → IsOver graph hierarchy.now → IsWayOver graph hierarchy.now a b walk)) }
     ensures shortest { IfOk result (λ found. IfSome found (λ walk. (graph : Streets) → IsOver graph hierarchy.now → GivesDistances graph hierarchy.now → IsShortestWalk graph a b walk)) }
@@ -186,8 +186,9 @@ pub fn path<L: Ledger>(
         a,
         b,
         &mut work.up,
+        &mut work.up_queue,
         &mut work.down,
-        &mut work.queue,
+        &mut work.down_queue,
     );
     let found = walk_of(alloc, hierarchy, a, b, meeting, &work.up, &work.down);
     work.up.clear();

@@ -25,7 +25,7 @@ pub fn search_up<L: Ledger>(
 {
     searches.tick();
     work.settled.clear();
-    search(hierarchy.ascents(), from, &mut work.up, &mut work.queue);
+    search(hierarchy.ascents(), from, &mut work.up, &mut work.up_queue);
     work.up.list(&mut work.settled);
     work.up.clear();
 }
@@ -46,7 +46,12 @@ pub fn search_down<L: Ledger>(
 {
     searches.tick();
     work.settled.clear();
-    search(hierarchy.descents(), to, &mut work.down, &mut work.queue);
+    search(
+        hierarchy.descents(),
+        to,
+        &mut work.down,
+        &mut work.down_queue,
+    );
     work.down.list(&mut work.settled);
     work.down.clear();
 }

@@ -14,7 +14,8 @@ use walk_queue::MinQueue;
 pub struct Work {
     pub(crate) up: Labels,
     pub(crate) down: Labels,
-    pub(crate) queue: MinQueue<u64>,
+    pub(crate) up_queue: MinQueue<u64>,
+    pub(crate) down_queue: MinQueue<u64>,
     pub(crate) settled: Vec<Settled>,
 }
 
@@ -25,9 +26,9 @@ impl Model for Work {
 
     ghost Value = { Working };
 
-    ghost view = { λ work. record { nodes = length work.queue - 1; settled = work.settled.items } };
+    ghost view = { λ work. record { nodes = length work.up_queue - 1; settled = work.settled.items } };
 
-    ghost invariant = { λ work. IsIdle work.up work.down work.queue (vec_capacity work.settled) };
+    ghost invariant = { λ work. IsIdle work.up work.down work.up_queue work.down_queue (vec_capacity work.settled) };
 }
 
 impl Work {
@@ -39,7 +40,8 @@ impl Work {
         Ok(Work {
             up: Labels::new(alloc, places)?,
             down: Labels::new(alloc, places)?,
-            queue: MinQueue::new(alloc, places)?,
+            up_queue: MinQueue::new(alloc, places)?,
+            down_queue: MinQueue::new(alloc, places)?,
             settled: Vec::with_capacity(alloc, places as usize)?,
         })
     }

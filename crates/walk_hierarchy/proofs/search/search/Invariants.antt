@@ -4,7 +4,7 @@ use Rattle.walk_hierarchy.proofs.search.search.Given as goal
 
 abbrev pub invariant-vertices : goal.invariant-vertices
 invariant-vertices l = record {
-  search : IsSearch l.rows l.fn.from.0 l.labels l.queue;
+  search : IsSearch l.rows l.fn.from.0 18446744073709551615 l.labels l.queue;
   many : length l.labels ≡ length l.fn.labels;
 }
 

@@ -19,7 +19,7 @@ search-requires-clause-climbs g c =
       ap (λ (w : Working). w.nodes) c.work.view_is,
       idle.from_zero,
       ap length idle.up_none,
-      length-replicate {A = Option Label} (length c.work.inside.queue) None,
+      length-replicate {A = Option Label} (length c.work.inside.up_queue) None,
     ) in
     subst (λ (n : ℕ). Climbs c.ascents.result.now n) places (ascents_climb c.args.hierarchy.now c.ascents.result.now s.0 s.1)
 
