@@ -9,11 +9,12 @@ use Rattle.walk_laws.specs.declared.CoreArc.{CoreArc}
 use Rattle.walk_laws.specs.Sums.{HasArc, HasWithin, IsRest, rank_of, last_rank, Keeps, Bridges, IsContracted}
 use Rattle.walk_laws.proofs.SumLemmas.{IsSum-one, IsSum-map, IsWithin}
 use Rattle.walk_laws.proofs.Step.{keeps_still}
+use Rattle.walk_core.specs.Middles.{HasMiddle, IsRuled, Ruled}
 use Rattle.walk_core.specs.Core.{HasDifferentEnds}
 use Rattle.walk_core.specs.Row.{is_last}
 use Rattle.walk_core.specs.Rows.{Cleans, row_of}
 use Rattle.walk_core.specs.Search.{Fits, Avoids}
-use Rattle.walk_core.specs.Bridge.{view_of, IsBuilt, Grows, Real, Spans, IsSpanned, AllDone, AreOthers, IsCounted, IsBridge, HasMiddle, IsRuled, Ruled}
+use Rattle.walk_core.specs.Bridge.{view_of, IsBuilt, Grows, Real, Spans, IsSpanned, AllDone, AreOthers, IsCounted, IsBridge}
 use Rattle.walk_core.specs.State.{Rises}
 use Rattle.walk_core.proofs.BridgeLemmas.{HasWithin-itself, Grows-join}
 

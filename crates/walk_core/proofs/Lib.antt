@@ -5,3 +5,4 @@ pub mod ContractLemmas
 pub mod StreetLemmas
 pub mod StateLemmas
 pub mod CoreLemmas
+pub mod RestLemmas

@@ -10,12 +10,14 @@ use Rattle.move_model.specs.Streets.{Streets}
 use Rattle.walk_laws.specs.declared.CoreArc.{CoreArc}
 use Rattle.walk_laws.specs.Sums.{IsSum, View, HasArc, HasWithin, IsUp, IsDown, IsRest, last_rank, Leads}
 use Rattle.walk_laws.proofs.SumLemmas.{IsSum-one, IsSum-join}
+use Rattle.walk_core.specs.Middles.{HasMiddle, IsRuled}
+use Rattle.walk_core.specs.Ranks.{IsPlaced, IsOrdered}
 use Rattle.walk_core.specs.Core.{HasDifferentEnds}
 use Rattle.walk_core.specs.Row.{is_last}
 use Rattle.walk_core.specs.Rows.{Cleans, row_of}
 use Rattle.walk_core.specs.Search.{Fits}
-use Rattle.walk_core.specs.Bridge.{view_of, IsBuilt, IsCounted, HasMiddle, IsRuled, IsUnranked}
-use Rattle.walk_core.specs.State.{IsPlaced, IsOrdered, Rises, IsSound, IsRight, CleansLeft, IsFree, Advances}
+use Rattle.walk_core.specs.Bridge.{view_of, IsBuilt, IsCounted, IsUnranked}
+use Rattle.walk_core.specs.State.{Rises, IsSound, IsRight, CleansLeft, IsFree, Advances}
 
 -- the order
 

@@ -10,10 +10,11 @@ use Rattle.walk_laws.specs.declared.CoreArc.{CoreArc}
 use Rattle.walk_laws.specs.Sums.{IsSum, IsStreet, View, HasArc, HasWithin, IsRest, last_rank, Keeps}
 use Rattle.walk_laws.specs.Sums.IsSum.{none}
 use Rattle.walk_laws.proofs.SumLemmas.{IsSum-one, IsSum-map, IsWithin}
+use Rattle.walk_core.specs.Middles.{Ruled}
 use Rattle.walk_core.specs.Core.{HasDifferentEnds}
 use Rattle.walk_core.specs.Search.{Fits}
 use Rattle.walk_core.specs.Rows.{Puts}
-use Rattle.walk_core.specs.Bridge.{view_of, StreetDone, StreetsDone, IsUnranked, Ruled}
+use Rattle.walk_core.specs.Bridge.{view_of, StreetDone, StreetsDone, IsUnranked}
 use Rattle.walk_core.proofs.RowLemmas.{same_end}
 use Rattle.walk_core.proofs.BridgeLemmas.{BothPut, row_only}
 

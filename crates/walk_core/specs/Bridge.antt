@@ -5,11 +5,11 @@
 --     Real graph w               each arc stands for a list of streets
 --     Spans w m p q s            a list of arcs leads from p to q round m in at most s seconds
 --     PairDone, RowDone, AllDone      one pair of arcs, one arc in with all arcs out, all arcs in with all arcs out
-use Rattle.std.specs.Prelude.{◌≡◌, ◌≢◌, ℕ, ◌+◌, ◌<◌, ◌≤◌, ◌⊎◌, Bool, true, false, List, [], length, slice_index_or, Contains}
+use Rattle.std.specs.Prelude.{◌≡◌, ◌≢◌, ℕ, ◌+◌, ◌<◌, ◌≤◌, ◌⊎◌, List, [], length, slice_index_or, Contains}
 use Rattle.move_model.specs.declared.network.Arc.{Arc}
-use Rattle.move_model.specs.Streets.{Streets, IsLeastArc}
+use Rattle.move_model.specs.Streets.{Streets}
 use Rattle.walk_laws.specs.declared.CoreArc.{CoreArc}
-use Rattle.walk_laws.specs.Sums.{IsSum, IsStreet, View, HasArc, HasWithin, IsRest, rank_of, longest, last_rank, Keeps}
+use Rattle.walk_laws.specs.Sums.{IsSum, IsStreet, View, HasArc, HasWithin, IsRest, rank_of, longest, last_rank}
 use Rattle.walk_core.specs.Core.{HasDifferentEnds}
 use Rattle.walk_core.specs.Row.{is_last}
 use Rattle.walk_core.specs.Search.{Fits, Avoids}
@@ -107,35 +107,6 @@ pub record AreOthers (rank : List ℕ) (m : ℕ) (arcs : List CoreArc) : Type 0 
 -- the vertices that are not left have ranks below the count
 pub record IsCounted (rank : List ℕ) (count : ℕ) : Type 0 where
   pub below : (v : ℕ) → slice_index_or rank v last_rank < last_rank → slice_index_or rank v last_rank < count
-
--- The two arcs that an arc with a middle stands for. Their rows never change again.
-pub record HasMiddle (w : View) (p q l middle : ℕ) : Type 0 where
-  pub below_from : rank_of w middle < rank_of w p
-  pub below_to : rank_of w middle < rank_of w q
-  pub k : ℕ
-  pub n : ℕ
-  pub down : HasArc w.into middle p k
-  pub up : HasArc w.out middle q n
-  pub total : l ≡ k + n
-
--- a least street, or an arc with a middle
-abbrev pub IsRuled : Streets → View → ℕ → ℕ → ℕ → ℕ → Type 0
-IsRuled graph w p q l middle = ((middle ≡ 0) × IsLeastArc graph.arcs (record { 0 = p }) (record { 0 = q }) l) ⊎ HasMiddle w p q l middle
-
--- the rule on middles
-pub record Ruled (graph : Streets) (w : View) : Type 0 where
-  pub out : (p : ℕ) (z : CoreArc) → Contains (slice_index_or w.out p []) z → IsRuled graph w p z.to.0 z.seconds z.middle.0
-  pub into : (q : ℕ) (z : CoreArc) → Contains (slice_index_or w.into q []) z → IsRuled graph w z.to.0 q z.seconds z.middle.0
-
--- From the one state to the other, with these counts, all distances are kept, and kept vertices stay left.
-pub record Advances (keep : List Bool) (old : View) (count : ℕ) (new : View) (after : ℕ) : Type 0 where
-  pub built : IsBuilt new
-  pub counted : IsCounted new.rank after
-  pub keeps : (graph : Streets) → Keeps graph old → Keeps graph new
-  pub ruled : (graph : Streets) → Keeps graph old → Ruled graph old → Ruled graph new
-  pub many : length new.rank ≡ length old.rank
-  pub kept : (v : ℕ) → slice_index_or keep v false ≡ true → is_last old.rank v → is_last new.rank v
-  pub gone : (v : ℕ) → slice_index_or old.rank v last_rank < last_rank → slice_index_or new.rank v last_rank < last_rank
 
 -- all arcs are streets
 pub record AllStreets (graph : Streets) (w : View) : Type 0 where

@@ -1,5 +1,5 @@
 -- A street graph that is contracted to a core.
---     Contraction                        its vertices, those that were contracted in their order, and the lists of arcs
+--     Contraction                        its vertices, those that were contracted in their order, their ranks, and the lists of arcs
 --     core_row, up_row, down_row core v  the lists of a vertex
 --     Holds core v                       v is a vertex that was not contracted
 --     IsBefore core v w                  v was contracted, and w later or never
@@ -8,19 +8,26 @@
 --     HasDifferentEnds row               no two arcs of the list have the same other end
 --     AreArcs core                       the arcs lead to where was contracted later or not at all, one to each vertex
 --     IsUnfolded graph core p q arc      the arc is a least street, or stands for an arc down to its middle and an arc up from there
+--     state_of core                      its lists of arcs and its ranks
 --     IsContraction graph core           the core is one of the graph: its distances are those of the streets
+--     IsCore core                        the core is one of some graph
 use Rattle.std.specs.Prelude.{◌≡◌, ◌≢◌, ◌==◌, ℕ, ◌+◌, ◌<◌, ◌≤◌, ◌⊎◌, ◌↔◌, Bool, if◌then◌else◌, List, [], All, AllPairs, Contains, Option, Some, slice_get, slice_index_or}
 use Rattle.std.specs.List.{list_any}
 use Rattle.move_model.specs.declared.network.NodeNo.{NodeNo}
 use Rattle.move_model.specs.Streets.{Streets, IsVertex, IsLeastArc, HasDistance}
 use Rattle.walk_laws.specs.declared.CoreArc.{CoreArc}
-use Rattle.walk_laws.specs.Sums.{IsSum, HasLeast}
+use Rattle.street_graph.specs.Graph.{IsWithinLimits}
+use Rattle.walk_laws.specs.Sums.{IsSum, HasLeast, View, Keeps, longest}
+use Rattle.walk_core.specs.Ranks.{AreRanks}
+use Rattle.walk_core.specs.Middles.{Ruled}
 
 -- The arcs out of each vertex and into it, by its number: out of a vertex of the core to such vertices, and out of a
--- contracted vertex and into it, where `to` is the vertex at which the arc begins.
+-- contracted vertex and into it, where `to` is the vertex at which the arc begins. The rank of a contracted vertex is its
+-- place in the order, and that of any other the greatest number.
 pub record Contraction : Type 0 where
   pub nodes : ℕ
   pub contracted : List NodeNo
+  pub ranks : List ℕ
   pub arcs_out : List (List CoreArc)
   pub arcs_into : List (List CoreArc)
 
@@ -83,6 +90,9 @@ pub record AreArcs (core : Contraction) : Type 0 where
   pub out_ends : (v : NodeNo) → HasDifferentEnds (core_row core v.0)
   pub up_ends : (v : NodeNo) → HasDifferentEnds (up_row core v.0)
   pub down_ends : (v : NodeNo) → HasDifferentEnds (down_row core v.0)
+  pub out_short : (v : NodeNo) → All (λ arc. arc.seconds ≤ longest) (core_row core v.0)
+  pub up_short : (v : NodeNo) → All (λ arc. arc.seconds ≤ longest) (up_row core v.0)
+  pub down_short : (v : NodeNo) → All (λ arc. arc.seconds ≤ longest) (down_row core v.0)
 
 -- The arc from p to q with the middle m stands for an arc down from p to m and an arc up from m to q.
 pub record IsByMiddle (core : Contraction) (p q : NodeNo) (seconds : ℕ) (m : NodeNo) : Type 0 where
@@ -104,12 +114,22 @@ pub record AreUnfolded (graph : Streets) (core : Contraction) : Type 0 where
   pub up : (v : NodeNo) → All (λ arc. IsUnfolded graph core v arc.to arc.seconds arc.middle) (up_row core v.0)
   pub down : (v : NodeNo) → All (λ arc. IsUnfolded graph core arc.to v arc.seconds arc.middle) (down_row core v.0)
 
+abbrev pub state_of : Contraction → View
+state_of core = record { out = core.arcs_out; into = core.arcs_into; rank = core.ranks }
+
 pub record IsContraction (graph : Streets) (core : Contraction) : Type 0 where
+  pub limits : IsWithinLimits graph
   pub nodes : core.nodes ≡ graph.nodes
+  pub ranks : AreRanks core.nodes core.ranks core.contracted
   pub contracted : All (IsVertex graph) core.contracted
   pub each_once : AllPairs (λ v w. v ≢ w) core.contracted
   pub arcs : AreArcs core
   pub unfolded : AreUnfolded graph core
+  pub keeps : Keeps graph (state_of core)
+  pub ruled : Ruled graph (state_of core)
   pub distances : (a b : NodeNo) (r : Option ℕ) → IsVertex graph a → HasLeast (IsWay core a.0 b.0) r ↔ HasDistance graph a b r
   pub core_distances : (a b : NodeNo) (r : Option ℕ) → Holds core a → Holds core b
       → HasLeast (IsSum (IsCoreArc core) a.0 b.0) r ↔ HasDistance graph a b r
+
+abbrev pub IsCore : Contraction → Type 0
+IsCore core = (graph : Streets) × IsContraction graph core

@@ -1,3 +1,5 @@
+pub mod Ranks
+pub mod Middles
 pub mod Core
 pub mod Row
 pub mod Rows

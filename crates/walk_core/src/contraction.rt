@@ -2,8 +2,9 @@
 ghost use Rattle.std.specs.Prelude.{◌≡◌, ◌≢◌, ℕ, ◌+◌, ◌<◌, ◌≤◌, List, length, vec_len, All, OnOk, slice_set};
 ghost use Rattle.move_model.specs.Streets.{Streets};
 ghost use Rattle.walk_laws.specs.Sums.{longest, last_rank, Keeps};
+ghost use Rattle.walk_core.specs.Middles.{Ruled};
 ghost use Rattle.walk_core.specs.Row.{is_last};
-ghost use Rattle.walk_core.specs.Bridge.{view_of, IsBuilt, Spans, PairDone, RowDone, AllDone, AreOthers, IsCounted, Ruled};
+ghost use Rattle.walk_core.specs.Bridge.{view_of, IsBuilt, Spans, PairDone, RowDone, AllDone, AreOthers, IsCounted};
 ghost use Rattle.walk_core.specs.State.{Rises};
 
 use crate::rows::Rows;

@@ -1,6 +1,6 @@
 // The core and its arcs.
 ghost use Rattle.std.specs.Prelude.{◌≡◌, ◌↔◌, IsTrue};
-ghost use Rattle.walk_core.specs.Core.{Holds, core_row, up_row, down_row};
+ghost use Rattle.walk_core.specs.Core.{Holds, IsCore, core_row, up_row, down_row};
 
 use crate::rows::{Rows, is_left};
 use move_model::NodeNo;
@@ -28,15 +28,16 @@ impl Model for Core {
 
     ghost Value = { Contraction };
 
-    ghost view = { λ core. contraction_of core.nodes core.out core.into core.contracted.items };
+    ghost view = { λ core. contraction_of core.nodes core.out core.into core.rank.items core.contracted.items };
 
-    ghost invariant = { λ core. IsStored core.nodes core.rank.items core.contracted.items };
+    ghost invariant = { λ core. IsStored core.nodes core.out core.into core.rank.items core.contracted.items };
 }
 
 impl Core {
     /// The number of vertices of the graph, in the core or not.
     pub fn nodes(&self) -> u32
-        ensures { result ≡ self.now.nodes }
+        ensures value { result ≡ self.now.nodes }
+        ensures rules { IsCore self.now }
     {
         self.nodes
     }

@@ -8,11 +8,13 @@
 //! - [`Core::holds`], [`Core::out`] are the vertices of the core and its arcs.
 //! - [`Core::contracted`], [`Core::up`], [`Core::down`] are the other vertices in their order, with the arcs to and from
 //!   where was contracted later or never.
+//! - [`contract_rest`] contracts the vertices of a core too, so that arcs up and arcs down alone have the distances.
 #![tactic(auto)]
 
 mod contraction;
 mod core_graph;
 mod order;
+mod rest;
 mod rows;
 mod search;
 mod state;
@@ -22,5 +24,6 @@ mod tests;
 mod whole;
 
 pub use core_graph::Core;
+pub use rest::contract_rest;
 pub use walk_laws::CoreArc;
 pub use whole::contract;

@@ -15,16 +15,20 @@ use std::alloc::{AllocError, Global};
 use walk_laws::CoreArc;
 use walk_queue::MinQueue;
 
-// How many vertices a search for witnesses goes on from, while a priority is found and while a vertex is contracted.
-const TRIED: u32 = 30;
-
+// From how many vertices a search for witnesses goes on while a vertex is contracted.
 const SETTLED: u32 = 60;
-
-// How many arcs out a vertex of the core has at most, on average.
-const DEGREE: u64 = 16;
 
 // What a priority is raised by, so that it is no negative number.
 const BASE: u64 = 1_000_000;
+
+/// How far the contraction goes, and what it spends on the order.
+#[derive(Clone, Copy, Debug)]
+pub struct Effort {
+    /// How many arcs out a vertex that is left has at most, on average.
+    pub degree: u64,
+    /// From how many vertices a search for witnesses goes on while a priority is found.
+    pub tried: u32,
+}
 
 // What the order knows of a vertex: how deep the contractions below it go, and whether its priority may be out of date.
 #[derive(Clone, Copy, Debug)]
@@ -41,6 +45,7 @@ pub struct Order {
     // How many vertices are left, and how many arcs lead out of them.
     vertices: u64,
     arcs: u64,
+    effort: Effort,
 }
 
 // How many arcs the way over a vertex from one neighbour needs.
@@ -55,7 +60,7 @@ fn count_row(x: CoreArc, outs: &[CoreArc], search: &Search) -> u64 {
 }
 
 // How many arcs the contraction of a vertex needs, as far as the searches find witnesses.
-fn count_arcs(out: &Rows, into: &Rows, rank: &[u32], m: u32, search: &mut Search) -> u64
+fn count_arcs(out: &Rows, into: &Rows, rank: &[u32], m: u32, search: &mut Search, tried: u32) -> u64
     requires built { IsBuilt (view_of out.now into.now rank.now) }
     requires labels { vec_len search.old.labels ≡ length rank.now }
     ensures labels { vec_len search.new.labels ≡ vec_len search.old.labels }
@@ -65,19 +70,27 @@ fn count_arcs(out: &Rows, into: &Rows, rank: &[u32], m: u32, search: &mut Search
     let mut many: u64 = 0;
     for x in into.row(NodeNo(m)) {
         let limit = x.seconds.saturating_add(most).min(LONGEST);
-        search.look(out, rank, m, x.to, outs, limit, TRIED);
+        search.look(out, rank, m, x.to, outs, limit, tried);
         many = many.saturating_add(count_row(*x, outs, search));
     }
     many
 }
 
 // The priority of a vertex: the arcs that its contraction needs, against those that it takes away, and its depth.
-fn priority(out: &Rows, into: &Rows, rank: &[u32], m: u32, depth: u32, search: &mut Search) -> u64
+fn priority(
+    out: &Rows,
+    into: &Rows,
+    rank: &[u32],
+    m: u32,
+    depth: u32,
+    search: &mut Search,
+    tried: u32,
+) -> u64
     requires built { IsBuilt (view_of out.now into.now rank.now) }
     requires labels { vec_len search.old.labels ≡ length rank.now }
     ensures labels { vec_len search.new.labels ≡ vec_len search.old.labels }
 {
-    let added = count_arcs(out, into, rank, m, search);
+    let added = count_arcs(out, into, rank, m, search, tried);
     let removed = (out.row(NodeNo(m)).len() as u64).saturating_add(
         into.row(NodeNo(m)).len() as u64,
     );
@@ -90,7 +103,7 @@ fn priority(out: &Rows, into: &Rows, rank: &[u32], m: u32, depth: u32, search: &
 
 impl Order {
     // All vertices that may be contracted wait, and none has its priority yet.
-    fn new(alloc: Global, out: &Rows, keep: &[bool]) -> Result<Order, AllocError>
+    fn new(alloc: Global, out: &Rows, keep: &[bool], effort: Effort) -> Result<Order, AllocError>
         requires { length keep.now < 2 ^ 32 }
     {
         let count = keep.len() as u32;
@@ -105,6 +118,7 @@ impl Order {
             marks,
             vertices: u64::from(count),
             arcs: 0,
+            effort,
         };
         for at in 1..count {
             order.arcs = order.arcs.saturating_add(out.row(NodeNo(at)).len() as u64);
@@ -152,7 +166,7 @@ impl Order {
     }
 
     fn is_dense(&self) -> bool {
-        self.arcs > self.vertices.saturating_mul(DEGREE)
+        self.arcs > self.vertices.saturating_mul(self.effort.degree)
     }
 }
 
@@ -181,7 +195,7 @@ fn waits(
             stale: false,
         },
     );
-    let fresh = priority(out, into, rank, m, mark.depth, search);
+    let fresh = priority(out, into, rank, m, mark.depth, search, order.effort.tried);
     if fresh > key {
         order.put(m, fresh);
         return true;
@@ -277,7 +291,7 @@ fn advance(
     Ok(true)
 }
 
-/// Contracts vertices that are not to be kept, until the core is dense.
+/// Contracts vertices that are not to be kept, until more arcs than the effort allows lead out of those that are left.
 pub fn contract_some(
     alloc: Global,
     out: &mut Rows,
@@ -285,13 +299,14 @@ pub fn contract_some(
     rank: &mut [u32],
     contracted: &mut Vec<NodeNo>,
     keep: &[bool],
+    effort: Effort,
 ) -> Result<(), AllocError>
     requires sound { IsSound (view_of out.old into.old rank.old) contracted.old.items }
     requires keep { length keep.now ≡ length rank.old }
     ensures sound { OnOk result (IsSound (view_of out.new into.new rank.new) contracted.new.items) }
     ensures advances { OnOk result (Advances keep.now (view_of out.old into.old rank.old) (view_of out.new into.new rank.new)) }
 {
-    let mut order = Order::new(alloc, out, keep)?;
+    let mut order = Order::new(alloc, out, keep, effort)?;
     let search = Search::new(alloc, rank.len() as u32)?;
     let mut scratch = Scratch {
         ins: Vec::new(alloc),

@@ -2,7 +2,8 @@
 ghost use Rattle.std.specs.Prelude.{◌≡◌, ◌<◌, ◌≤◌, [], replicate, length, All, OnOk};
 ghost use Rattle.move_model.specs.Streets.{Streets};
 ghost use Rattle.walk_laws.specs.Sums.{longest, Keeps};
-ghost use Rattle.walk_core.specs.Bridge.{view_of, IsBuilt, StreetDone, StreetsDone, IsUnranked, Ruled};
+ghost use Rattle.walk_core.specs.Middles.{Ruled};
+ghost use Rattle.walk_core.specs.Bridge.{view_of, IsBuilt, StreetDone, StreetsDone, IsUnranked};
 
 use crate::rows::Rows;
 use move_model::{Arc, NodeNo};

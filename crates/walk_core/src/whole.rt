@@ -6,7 +6,7 @@ ghost use Rattle.walk_core.specs.Bridge.{IsUnranked};
 ghost use Rattle.walk_core.specs.State.{IsStored, contraction_of};
 
 use crate::core_graph::Core;
-use crate::order::contract_some;
+use crate::order::{Effort, contract_some};
 use crate::rows::{LEFT, Rows};
 use crate::state::clean_all;
 use crate::streets::lay_streets;
@@ -45,14 +45,18 @@ fn fill(
     requires unranked { IsUnranked rank.old }
     requires many { length rank.old ≡ nodes + 1 }
     requires none { contracted.old.items ≡ [] }
-    ensures stored { OnOk result (IsStored nodes rank.new contracted.new.items) }
-    ensures contraction { OnOk result (IsContraction graph.now (contraction_of nodes out.new into.new contracted.new.items)) }
-    ensures kept { OnOk result (All (λ v. Holds (contraction_of nodes out.new into.new contracted.new.items) v) keep.now) }
+    ensures stored { OnOk result (IsStored nodes out.new into.new rank.new contracted.new.items) }
+    ensures contraction { OnOk result (IsContraction graph.now (contraction_of nodes out.new into.new rank.new contracted.new.items)) }
+    ensures kept { OnOk result (All (λ v. Holds (contraction_of nodes out.new into.new rank.new contracted.new.items) v) keep.now) }
 {
     let arcs = graph.arcs();
     lay_streets(out, into, rank, arcs)?;
     let marks = marks_of(alloc, rank.len(), keep)?;
-    contract_some(alloc, out, into, rank, contracted, marks.as_slice())?;
+    let effort = Effort {
+        degree: 16,
+        tried: 30,
+    };
+    contract_some(alloc, out, into, rank, contracted, marks.as_slice(), effort)?;
     clean_all(out, rank);
     Ok(())
 }

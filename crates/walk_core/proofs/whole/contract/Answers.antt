@@ -5,5 +5,5 @@ use Rattle.walk_core.proofs.whole.contract.Goals as goal
 
 pub invariant_of-result : goal.invariant_of-result
 invariant_of-result c =
-    subst (λ (r : List ℕ). IsStored c.nodes-nodes.result r c.fill.new.contracted.items)
+    subst (λ (r : List ℕ). IsStored c.nodes-nodes.result c.fill.new.out c.fill.new.into r c.fill.new.contracted.items)
     (sym (take_at c.fill.new.rank _ c.in_ok-rank.rank.len (omega (arith, c.fill.auto.rank, c.as_mut_slice.ensures.len)))) c.in_ok-fill.ensures.stored
