@@ -15,6 +15,7 @@ none_in (x ∷ places) = ap (λ b. b ∷ map (λ place. nat_lt place 0) places) 
 pub shown : (places : List ℕ) (count x : ℕ) → x < length places → get_or (map (λ place. nat_lt place count) places) x false ≡ nat_lt (slice_index places x) count
 shown places count x lt = get_or-map (λ place. nat_lt place count) places x 0 false lt
 
+-- what is in a set is below its bound
 pub true_within : (xs : List Bool) (x : ℕ) → slice_index_or xs x false ≡ true → x < length xs
 true_within xs x is = elim (cases_lt x (length xs)) [
   | inl lt ↦ lt

@@ -1,9 +1,8 @@
 -- The first marked calls of routes.
-use Rattle.std.proofs.Common.{◌≡◌, ℕ, ◌<◌, inl, inr, List, length, sym, ◌∙◌, Bool, true, false}
+use Rattle.std.proofs.Common.{ℕ, ◌<◌, List, length}
 use Rattle.std.specs.Prelude.{slice_index_or}
-use Rattle.std.proofs.lemmas.List.{get_or_default, get_or_past}
+use Rattle.std.proofs.lemmas.List.{get_or_default}
 use Rattle.std.proofs.lemmas.Option.{slice_get_within}
-use Rattle.std.proofs.lemmas.Bool.{cases_lt, false≢true}
 use Rattle.route_split.specs.declared.place.RouteCall.{RouteCall}
 use Rattle.route_split.specs.Route.{Route}
 use Rattle.route_split.specs.Table.{LendsCalls}
@@ -14,9 +13,3 @@ calls_within routes stop calls lends k d here =
     let rc : RouteCall = slice_index_or calls k d in
     let at = (lends rc.route rc.call).0 (k, here, get_or_default calls k rc d here) in
     slice_get_within routes rc.route at.route at.is_route
-
-pub true_within : (xs : List Bool) (x : ℕ) → slice_index_or xs x false ≡ true → x < length xs
-true_within xs x is = elim (cases_lt x (length xs)) [
-  | inl lt ↦ lt
-  | inr ge ↦ absurd (false≢true (sym (get_or_past xs x false ge) ∙ is))
-]

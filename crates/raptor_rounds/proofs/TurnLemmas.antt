@@ -18,7 +18,7 @@ use Rattle.raptor_rounds.specs.Ways.IsReady.{goes_on}
 use Rattle.raptor_rounds.specs.Ways.HasChain.{none, link}
 use Rattle.raptor_rounds.specs.Labels.{Scope, ReadyBy, LeftBy, BestBy, AllReady, IsFound, Scanned, Falls, ReadyFalls, Cleared, Unmarked}
 use Rattle.raptor_rounds.specs.Least.{LeastReady, LeastLeft, Walked, Closed, FirstKnown, GoesOn, scope}
-use Rattle.raptor_rounds.proofs.StartsLemmas.{true_within}
+use Rattle.raptor_rounds.proofs.SetLemmas.{true_within}
 use Rattle.raptor_rounds.proofs.LawLemmas.{left_least, ready_least}
 
 -- more slots, of which the first are as before

@@ -22,6 +22,8 @@ mod scan;
 mod sparse_row;
 mod sparse_set;
 mod starts;
+#[cfg(test)]
+mod tests;
 mod turns;
 
 pub use rounds::Rounds;
