@@ -234,6 +234,34 @@ fn expect_answers(
     Ok(())
 }
 
+// Sees that the last run and the walk on foot together are what the plain search finds over the network itself.
+fn expect_with_foot(
+    rt: &impl Abort,
+    alloc: Global,
+    n: &Network,
+    asked: Asked,
+    rounds: &Rounds,
+) -> Result<(), Fail>
+    requires answers { length rounds.now.answers ≡ asked.limit + 1 }
+    requires few { asked.limit ≤ 4 }
+{
+    let Asked {
+        from,
+        to,
+        depart,
+        limit,
+    } = asked;
+    let plain = earliest(alloc, n, from, depart, limit)?;
+    let foot = seconds_of(&plain, NodeNo(0), to);
+    for k in 0..limit + 1 {
+        let best = rounds.best(k);
+        let either = if is_earlier(foot, best) { foot } else { best };
+        let want = seconds_of(&plain, NodeNo(u32::from(k)), to);
+        assert!(rt; either == want, "with {k} rides or none");
+    }
+    Ok(())
+}
+
 // Asks one query over rounds that other queries were asked before.
 fn ask<L: Ledger>(
     rt: &impl Abort,
@@ -257,6 +285,7 @@ fn ask<L: Ledger>(
     let walks = walks_of(alloc, case, asked, stops, step)?;
     run(table, &walks, asked, rounds, opens);
     expect_fresh(rt, alloc, table, &walks, asked, rounds, opens)?;
+    expect_with_foot(rt, alloc, &case.network, asked, rounds)?;
     expect_answers(rt, alloc, case, &walks, stops, asked, rounds, tally)
 }
 
