@@ -1,0 +1,5 @@
+pub mod Starts
+pub mod Scan
+pub mod Gathered
+pub mod Buckets
+pub mod Stored

@@ -1,0 +1,62 @@
+// Least sums of a search and of bucket entries, for each stop.
+ghost use Rattle.std.specs.Prelude.{◌≡◌, ◌+◌, ◌<◌, ◌≤◌, ℕ, All, None, length, slice_index_or};
+ghost use Rattle.walk_laws.specs.Sums.{longest};
+ghost use Rattle.bucket_walks.specs.Scan.{Lowers, IsAt, IsBy, IsOver};
+ghost use Rattle.bucket_walks.specs.Starts.{AreStarts, nodes_of};
+
+use crate::bucket::Bucket;
+use crate::starts::row;
+use move_model::{StopNo, WalkRow};
+use walk_hierarchy::Settled;
+
+// Leaves no seconds.
+pub(crate) fn clear(walks: &mut WalkRow, stops: u32)
+    requires { stops ≡ length walks.old }
+    ensures many { length walks.new ≡ length walks.old }
+    ensures none { (p : ℕ) → slice_index_or walks.new p None ≡ None }
+{
+    for stop in 0..stops {
+        walks.set(StopNo(stop), None);
+    }
+}
+
+// Writes the seconds of a stop where it has more, or none.
+#[inline]
+fn lower(walks: &mut WalkRow, stop: StopNo, seconds: u64)
+    requires exists { stop.0 < length walks.old }
+    requires few { seconds ≤ 9000000000000000000 }
+    ensures { Lowers walks.old walks.new (IsAt stop.0 seconds) }
+{
+    let least = match walks.get(stop) {
+        Some(held) => held.min(seconds),
+        None => seconds,
+    };
+    walks.set(stop, Some(least));
+}
+
+// Goes on by the entries of a vertex that is some seconds away.
+#[inline]
+fn lower_by(entries: &[Bucket], seconds: u64, walks: &mut WalkRow)
+    requires stops { All (λ entry. entry.stop.0 < length walks.old) entries.now }
+    requires short { All (λ entry. entry.seconds ≤ longest) entries.now }
+    requires few { seconds ≤ 4000000000000000000 }
+    ensures { Lowers walks.old walks.new (IsBy entries.now seconds) }
+{
+    for entry in entries {
+        lower(walks, entry.stop, seconds + entry.seconds);
+    }
+}
+
+// Goes on by the entries of each vertex to which a search came.
+pub(crate) fn scan(list: &[Bucket], starts: &[u32], settled: &[Settled], walks: &mut WalkRow)
+    requires starts { AreStarts starts.now (nodes_of list.now) }
+    requires stops { All (λ entry. entry.stop.0 < length walks.old) list.now }
+    requires short { All (λ entry. entry.seconds ≤ longest) list.now }
+    requires exist { All (λ there. there.node.0 + 1 < length starts.now) settled.now }
+    requires few { All (λ there. there.seconds ≤ 4000000000000000000) settled.now }
+    ensures { Lowers walks.old walks.new (IsOver settled.now list.now) }
+{
+    for there in settled {
+        lower_by(row(list, starts, there.node), there.seconds, walks);
+    }
+}
