@@ -1,0 +1,10 @@
+pub mod ListLemmas
+pub mod LowerLemmas
+pub mod LeastLaws
+pub mod BoundLemmas
+pub mod KeptLemmas
+pub mod EntryLemmas
+pub mod ScanLemmas
+pub mod MarkLemmas
+pub mod OrderLemmas
+pub mod DistanceLaws

@@ -5,10 +5,11 @@
 --     AreBypasses side h all     all such arcs, by their lesser end
 --     AreMarked settled marks    the marks are the seconds of the settled vertices
 --     IsShortBy marks s arc      by way of the arc's other end it is less than s seconds
+--     IsDirect arcs marks there  no arc makes it less than the seconds of the settled vertex
 --     IsKept .. entry            the entry is that of a settled vertex, and by no arc it is less
 --     AreApart entries           no two entries have the same vertex and the same stop
 --     IsEntryAt side h stops e   e is an entry to a stop; or from a stop
-use Rattle.std.specs.Prelude.{◌≡◌, ◌↔◌, ℕ, ◌+◌, ◌<◌, ◌≤◌, List, Option, Some, None, All, AllPairs, Contains, length, map, slice_get}
+use Rattle.std.specs.Prelude.{◌≡◌, ◌↔◌, ℕ, ◌+◌, ◌<◌, ◌≤◌, List, Option, Some, None, All, AllPairs, Contains, length, map, slice_index_or}
 use Rattle.move_model.specs.declared.network.Stop.{Stop}
 use Rattle.move_model.specs.declared.network.StopNo.{StopNo}
 use Rattle.walk_laws.specs.Sums.{longest}
@@ -43,12 +44,13 @@ pub record AreBypasses (side : Side) (h : Parts) (all : Bypasses) : Type 0 where
   pub starts : length all.starts.items ≡ length h.ranks + 2
   pub first : AreStarts all.starts.items (heads_of all.arcs.items)
 
+-- no vertex has seconds
 abbrev pub IsUnmarked : List (Option ℕ) → Type 0
-IsUnmarked marks = All (λ (mark : Option ℕ). mark ≡ None) marks
+IsUnmarked marks = (v : ℕ) → slice_index_or marks v None ≡ None
 
 pub record AreMarked (settled : List Settled) (marks : List (Option ℕ)) : Type 0 where
-  pub all : (v m : ℕ) → Contains settled (record { node = record { 0 = v }; seconds = m }) → slice_get marks v ≡ Some (Some m)
-  pub only : (v m : ℕ) → slice_get marks v ≡ Some (Some m) → Contains settled (record { node = record { 0 = v }; seconds = m })
+  pub all : (v m : ℕ) → Contains settled (record { node = record { 0 = v }; seconds = m }) → slice_index_or marks v None ≡ Some m
+  pub only : (v m : ℕ) → slice_index_or marks v None ≡ Some m → Contains settled (record { node = record { 0 = v }; seconds = m })
 
 -- no vertex has two entries with different seconds
 pub record HasOneEach (settled : List Settled) : Type 0 where
@@ -56,22 +58,24 @@ pub record HasOneEach (settled : List Settled) : Type 0 where
 
 pub record IsShortBy (marks : List (Option ℕ)) (seconds : ℕ) (arc : Bypass) : Type 0 where
   pub k : ℕ
-  pub there : slice_get marks arc.over.0 ≡ Some (Some k)
+  pub there : slice_index_or marks arc.over.0 None ≡ Some k
   pub less : arc.seconds + k < seconds
 
-pub record HasShort (arcs : List Bypass) (marks : List (Option ℕ)) (seconds : ℕ) : Type 0 where
-  pub arc : Bypass
-  pub stands : Contains arcs arc
-  pub short : IsShortBy marks seconds arc
+abbrev pub HasFew : List (Option ℕ) → Type 0
+HasFew marks = (v m : ℕ) → slice_index_or marks v None ≡ Some m → m ≤ 4000000000000000000
 
 abbrev pub HasNoShort : List Bypass → List (Option ℕ) → ℕ → Type 0
 HasNoShort arcs marks seconds = (arc : Bypass) → Contains arcs arc → IsShortBy marks seconds arc → ⊥
 
+-- no more than the longest, and by no arc less
+pub record IsDirect (arcs : List Bypass) (marks : List (Option ℕ)) (there : Settled) : Type 0 where
+  pub short : there.seconds ≤ longest
+  pub direct : (arc : Bypass) → Contains arcs arc → arc.node ≡ there.node → IsShortBy marks there.seconds arc → ⊥
+
 pub record IsKept (stop : StopNo) (settled : List Settled) (arcs : List Bypass) (marks : List (Option ℕ)) (entry : Bucket) : Type 0 where
   pub stop_is : entry.stop ≡ stop
   pub comes : Contains settled (record { node = entry.node; seconds = entry.seconds })
-  pub short : entry.seconds ≤ longest
-  pub direct : (arc : Bypass) → Contains arcs arc → arc.node ≡ entry.node → IsShortBy marks entry.seconds arc → ⊥
+  pub direct : IsDirect arcs marks (record { node = entry.node; seconds = entry.seconds })
 
 abbrev pub IsApart : Bucket → Bucket → Type 0
 IsApart entry other = entry.node ≡ other.node → entry.stop ≡ other.stop → ⊥

@@ -3,3 +3,4 @@ pub mod Scan
 pub mod Gathered
 pub mod Buckets
 pub mod Stored
+pub mod Pairs

@@ -1,9 +1,10 @@
 -- Least sums of a search and of bucket entries.
 --     Lowers old new gives       each stop's seconds are the least of what it had and of what it is given
+--     lesser_of held s           the lesser of optional seconds and s
 --     IsAt q s                   the stop q is given s seconds
 --     IsBy entries s             each entry's stop is given its seconds and s
 --     IsOver settled list        each entry at a settled vertex gives its stop the seconds of both
-use Rattle.std.specs.Prelude.{◌≡◌, ◌⊎◌, ℕ, ◌+◌, ◌<◌, List, Option, Some, None, length, slice_index_or, Contains}
+use Rattle.std.specs.Prelude.{◌≡◌, ◌⊎◌, ℕ, ◌+◌, ◌<◌, List, Option, Some, None, length, slice_index_or, Contains, min}
 use Rattle.walk_laws.specs.Sums.{HasLeast}
 use Rattle.walk_hierarchy.specs.declared.settled.Settled.{Settled}
 use Rattle.bucket_walks.specs.declared.bucket.Bucket.{Bucket}
@@ -14,6 +15,10 @@ pub record IsHeld (row : List (Option ℕ)) (p m : ℕ) : Type 0 where
 pub record Lowers (old new : List (Option ℕ)) (gives : ℕ → ℕ → Type 0) : Type 0 where
   pub many : length new ≡ length old
   pub least : (p : ℕ) → p < length old → HasLeast (λ m. IsHeld old p m ⊎ gives p m) (slice_index_or new p None)
+
+abbrev pub lesser_of : Option ℕ → ℕ → ℕ
+lesser_of None s = s
+lesser_of (Some held) s = min held s
 
 pub record IsAt (stop seconds p m : ℕ) : Type 0 where
   pub stop_is : stop ≡ p

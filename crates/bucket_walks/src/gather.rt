@@ -1,14 +1,12 @@
 // The entries of all stops.
-ghost use Rattle.std.specs.Prelude.{◌≡◌, ◌≢◌, ◌↔◌, ◌⊎◌, ◌+◌, ◌<◌, ◌≤◌, ◌*◌, ℕ, All, AllPairs, Contains, IfOk, IfSome, OnOk, List, None, Some, length, slice_get};
-ghost use Rattle.std.specs.Bool.{OnTrue, OnFalse};
-ghost use Rattle.std.specs.List.{AllAdjacentBelow};
+ghost use Rattle.std.specs.Prelude.{◌≡◌, ◌≢◌, ◌↔◌, ◌⊎◌, ◌+◌, ◌<◌, ◌≤◌, ◌*◌, ℕ, All, AllPairs, Contains, IfOk, IsTrue, OnOk, length};
 ghost use Rattle.walk_laws.specs.Sums.{longest};
 ghost use Rattle.walk_hierarchy.specs.Hierarchy.{IsNode, AreSettled};
 ghost use Rattle.bucket_walks.specs.declared.bucket.Bucket.{Bucket};
 ghost use Rattle.bucket_walks.specs.declared.bypasses.Side.TheVariants.{To, From};
 ghost use Rattle.bucket_walks.specs.Starts.{AreStarts};
-ghost use Rattle.bucket_walks.specs.Buckets.{IsBefore, AreBuckets};
-ghost use Rattle.bucket_walks.specs.Gathered.{sums, heads_of, AreBypasses, IsUnmarked, AreMarked, HasOneEach, HasShort, HasNoShort, IsKept, AreApart, IsEntryOf, AreEntries};
+ghost use Rattle.bucket_walks.specs.Buckets.{AreBuckets};
+ghost use Rattle.bucket_walks.specs.Gathered.{sums, heads_of, AreBypasses, IsUnmarked, AreMarked, HasOneEach, HasFew, IsShortBy, HasNoShort, IsDirect, IsKept, AreApart, IsEntryOf, AreEntries};
 
 use crate::bucket::{Bucket, BucketList};
 use crate::bypasses::{Bypass, Bypasses, Side};
@@ -64,22 +62,44 @@ fn unmark(settled: &[Settled], marks: &mut [Option<u64>])
     }
 }
 
+// Whether by an arc it is fewer seconds.
+fn is_short_by(arc: &Bypass, marks: &[Option<u64>], seconds: u64) -> bool
+    requires exists { arc.now.over.0 < length marks.now }
+    requires short { arc.now.seconds ≤ longest }
+    requires few { HasFew marks.now }
+    ensures { IsTrue result ↔ IsShortBy marks.now seconds arc.now }
+{
+    match marks[arc.over.0 as usize] {
+        Some(there) => arc.seconds + there < seconds,
+        None => false,
+    }
+}
+
 // Whether by none of the arcs it is fewer seconds.
-fn is_needed(arcs: &[Bypass], marks: &[Option<u64>], seconds: u64) -> bool
+fn has_no_short(arcs: &[Bypass], marks: &[Option<u64>], seconds: u64) -> bool
     requires exist { All (λ arc. arc.over.0 < length marks.now) arcs.now }
     requires short { All (λ arc. arc.seconds ≤ longest) arcs.now }
-    requires few { All (λ mark. IfSome mark (λ m. m ≤ 4000000000000000000)) marks.now }
-    ensures needed { OnTrue result (HasNoShort arcs.now marks.now seconds) }
-    ensures needless { OnFalse result (HasShort arcs.now marks.now seconds) }
+    requires few { HasFew marks.now }
+    ensures { IsTrue result ↔ HasNoShort arcs.now marks.now seconds }
 {
     for arc in arcs {
-        if let Some(there) = marks[arc.over.0 as usize] {
-            if arc.seconds + there < seconds {
-                return false;
-            }
+        if is_short_by(arc, marks, seconds) {
+            return false;
         }
     }
     true
+}
+
+// Whether a least walk may need the seconds of a vertex to which a search came.
+fn is_direct(there: &Settled, bypasses: &Bypasses, marks: &[Option<u64>]) -> bool
+    requires starts { AreStarts bypasses.now.starts.items (heads_of bypasses.now.arcs.items) }
+    requires exists { there.now.node.0 + 1 < length bypasses.now.starts.items }
+    requires over { All (λ arc. arc.over.0 < length marks.now) bypasses.now.arcs.items }
+    requires short { All (λ arc. arc.seconds ≤ longest) bypasses.now.arcs.items }
+    requires few { HasFew marks.now }
+    ensures { IsTrue result ↔ IsDirect bypasses.now.arcs.items marks.now there.now }
+{
+    there.seconds <= LONGEST && has_no_short(bypasses.row(there.node), marks, there.seconds)
 }
 
 // Puts the entries of a stop last: those of the vertices to which its search came that no arc past them makes needless.
@@ -95,7 +115,7 @@ fn add_entries(
     requires exist { All (λ there. there.node.0 + 1 < length bypasses.now.starts.items) settled.now }
     requires over { All (λ arc. arc.over.0 < length marks.now) bypasses.now.arcs.items }
     requires short { All (λ arc. arc.seconds ≤ longest) bypasses.now.arcs.items }
-    requires few { All (λ mark. IfSome mark (λ m. m ≤ 4000000000000000000)) marks.now }
+    requires few { HasFew marks.now }
     requires apart { AreApart list.old.items }
     requires earlier { All (λ entry. entry.stop.0 < stop.0) list.old.items }
     ensures entries { OnOk result ((entry : Bucket) → Contains list.new.items entry
@@ -103,12 +123,11 @@ fn add_entries(
     ensures apart { OnOk result (AreApart list.new.items) }
 {
     for there in settled {
-        let seconds = there.seconds;
-        if seconds <= LONGEST && is_needed(bypasses.row(there.node), marks, seconds) {
+        if is_direct(there, bypasses, marks) {
             list.push(Bucket {
                 node: there.node,
                 stop,
-                seconds,
+                seconds: there.seconds,
             })?;
         }
     }
@@ -230,14 +249,7 @@ fn counted<L: Ledger>(
 {
     let mut searches = Steps::<L>::new(blank);
     let mut work = Work::new(alloc, hierarchy)?;
-    let to = entries(
-        alloc,
-        Side::To,
-        hierarchy,
-        stops,
-        &mut work,
-        &mut searches,
-    )?;
+    let to = entries(alloc, Side::To, hierarchy, stops, &mut work, &mut searches)?;
     let from = entries(
         alloc,
         Side::From,

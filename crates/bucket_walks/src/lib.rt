@@ -17,6 +17,8 @@ mod bypasses;
 mod gather;
 mod scan;
 mod starts;
+#[cfg(test)]
+mod tests;
 
 pub use bucket::{Bucket, BucketList};
 pub use buckets::Buckets;

@@ -1,12 +1,13 @@
 // Least sums of a search and of bucket entries, for each stop.
-ghost use Rattle.std.specs.Prelude.{◌≡◌, ◌+◌, ◌<◌, ◌≤◌, ℕ, All, None, length, slice_index_or};
+ghost use Rattle.std.specs.Prelude.{◌≡◌, ◌↔◌, ◌+◌, ◌<◌, ◌≤◌, ℕ, All, Contains, None, length, slice_index_or};
 ghost use Rattle.walk_laws.specs.Sums.{longest};
-ghost use Rattle.bucket_walks.specs.Scan.{Lowers, IsAt, IsBy, IsOver};
+ghost use Rattle.bucket_walks.specs.declared.bucket.Bucket.{Bucket};
+ghost use Rattle.bucket_walks.specs.Scan.{Lowers, lesser_of, IsAt, IsBy, IsOver};
 ghost use Rattle.bucket_walks.specs.Starts.{AreStarts, nodes_of};
 
 use crate::bucket::Bucket;
 use crate::starts::row;
-use move_model::{StopNo, WalkRow};
+use move_model::{NodeNo, StopNo, WalkRow};
 use walk_hierarchy::Settled;
 
 // Leaves no seconds.
@@ -20,6 +21,15 @@ pub(crate) fn clear(walks: &mut WalkRow, stops: u32)
     }
 }
 
+fn lesser(held: Option<u64>, seconds: u64) -> u64
+    ensures { result ≡ lesser_of held seconds }
+{
+    match held {
+        Some(held) => held.min(seconds),
+        None => seconds,
+    }
+}
+
 // Writes the seconds of a stop where it has more, or none.
 #[inline]
 fn lower(walks: &mut WalkRow, stop: StopNo, seconds: u64)
@@ -27,10 +37,7 @@ fn lower(walks: &mut WalkRow, stop: StopNo, seconds: u64)
     requires few { seconds ≤ 9000000000000000000 }
     ensures { Lowers walks.old walks.new (IsAt stop.0 seconds) }
 {
-    let least = match walks.get(stop) {
-        Some(held) => held.min(seconds),
-        None => seconds,
-    };
+    let least = lesser(walks.get(stop), seconds);
     walks.set(stop, Some(least));
 }
 
@@ -47,6 +54,16 @@ fn lower_by(entries: &[Bucket], seconds: u64, walks: &mut WalkRow)
     }
 }
 
+// The entries of a vertex.
+#[inline]
+fn entries_at<'a>(list: &'a [Bucket], starts: &[u32], node: NodeNo) -> &'a [Bucket]
+    requires starts { AreStarts starts.now (nodes_of list.now) }
+    requires exists { node.0 + 1 < length starts.now }
+    ensures { (entry : Bucket) → Contains result.now entry ↔ (Contains list.now entry × (entry.node ≡ node)) }
+{
+    row(list, starts, node)
+}
+
 // Goes on by the entries of each vertex to which a search came.
 pub(crate) fn scan(list: &[Bucket], starts: &[u32], settled: &[Settled], walks: &mut WalkRow)
     requires starts { AreStarts starts.now (nodes_of list.now) }
@@ -57,6 +74,6 @@ pub(crate) fn scan(list: &[Bucket], starts: &[u32], settled: &[Settled], walks: 
     ensures { Lowers walks.old walks.new (IsOver settled.now list.now) }
 {
     for there in settled {
-        lower_by(row(list, starts, there.node), there.seconds, walks);
+        lower_by(entries_at(list, starts, there.node), there.seconds, walks);
     }
 }
