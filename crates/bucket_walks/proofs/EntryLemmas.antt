@@ -2,16 +2,19 @@
 use Rattle.std.proofs.Common.{◌≡◌, ◌∙◌, ◌+◌, ◌<◌, ◌≤◌, ◌⊎◌, ◌↔◌, ℕ, List, Option, Some, length, get_or, refl, sym, ap, subst, inl, inr, arith}
 use Rattle.std.specs.Prelude.{All, Contains, slice_get}
 use Rattle.std.proofs.lemmas.Bool.{cases_eq}
+use Rattle.std.specs.List.Sorted.{IsPermutation, IsNonDecreasingBy}
 use Rattle.std.proofs.lemmas.List.Elements.{Contains-get_or}
+use Rattle.std.proofs.lemmas.List.Sorted.{IsPermutation-sym, Contains-permutation}
 use Rattle.std.proofs.lemmas.Option.{slice_get_within, get_or_from_slice_get}
 use Rattle.move_model.specs.declared.network.Stop.{Stop}
 use Rattle.move_model.specs.declared.network.StopNo.{StopNo}
 use Rattle.walk_hierarchy.specs.Hierarchy.{Parts, IsNode, IsHierarchy}
 use Rattle.bucket_walks.specs.declared.bucket.Bucket.{Bucket}
 use Rattle.bucket_walks.specs.declared.bypasses.Side.{Side}
-use Rattle.bucket_walks.specs.Buckets.{IsBucket, IsEntry}
-use Rattle.bucket_walks.specs.Gathered.{IsNeededAt, IsEntryOf, IsEntryAt, AreEntries}
+use Rattle.bucket_walks.specs.Buckets.{IsBucket, AreBuckets, IsEntry}
+use Rattle.bucket_walks.specs.Gathered.{IsNeededAt, IsEntryOf, IsEntryAt, AreEntries, AreApart, key_of}
 use Rattle.bucket_walks.proofs.KeptLemmas.{sums_node}
+use Rattle.bucket_walks.proofs.OrderLemmas.{apart_permutation, in_order}
 
 pub record IsEntryBefore (side : Side) (h : Parts) (stops : List Stop) (n : ℕ) (entry : Bucket) : Type 0 where
   pub is : IsEntryAt side h stops entry
@@ -73,3 +76,19 @@ module _ (side : Side) (h : Parts) (stops : List Stop) where
       let at : IsNode h is.stop.node = subst (λ (s : Stop). IsNode h s.node) (get_or_from_slice_get stops entry.stop.0 is.stop is.stop is.stands) (stand entry.stop.0 is.stop within) in
       let node : IsNode h entry.node = sums_node side h is.stop.node.0 entry.node.0 entry.seconds rules at is.needed.least.attained in
       record { from_one = node.from_one; to_nodes = node.to_nodes; stop = within; short = is.needed.short }
+
+  -- in another order
+  pub entries_moved : (list after : List Bucket) → IsPermutation list after → AreEntries side h stops list → AreEntries side h stops after
+  entries_moved list after moved are entry = (
+    λ has. (are entry).0 (Contains-permutation after list entry (IsPermutation-sym list after moved) has),
+    λ is. Contains-permutation list after entry moved ((are entry).1 is),
+  )
+
+  pub rules_of : IsHierarchy h → All (λ stop. IsNode h stop.node) stops → length stops ≤ 200000 → (list after : List Bucket) → IsPermutation list after
+      → AreEntries side h stops list → AreApart list → IsNonDecreasingBy key_of after → AreBuckets (length h.ranks) (length stops) after
+  rules_of rules stand few list after moved are apart rise =
+      let each : All (IsBucket (length h.ranks) (length stops)) after = each_bucket after rules stand (entries_moved list after moved are) in
+      record {
+        each = each;
+        in_order = in_order after (apart_permutation list after moved apart) rise (λ k d low. omega (arith, (each k d low).stop));
+      }

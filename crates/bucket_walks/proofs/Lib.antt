@@ -6,5 +6,8 @@ pub mod KeptLemmas
 pub mod EntryLemmas
 pub mod ScanLemmas
 pub mod MarkLemmas
+pub mod MapLemmas
+pub mod AddLemmas
+pub mod PairRules
 pub mod OrderLemmas
 pub mod DistanceLaws

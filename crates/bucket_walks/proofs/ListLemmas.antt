@@ -2,7 +2,7 @@
 use Rattle.std.proofs.Common.{◌≡◌, ◌≢◌, ◌∙◌, ◌+◌, ◌-◌, ◌<◌, ◌≤◌, ◌⊎◌, ◌↔◌, ℕ, List, [], ◌∷◌, ◌++◌, length, take, drop, get_or, map, refl, sym, ap, subst, inl, inr, arith}
 use Rattle.std.specs.Prelude.{All, Contains}
 use Rattle.std.proofs.lemmas.Bool.{cases_lt}
-use Rattle.std.proofs.lemmas.List.{take_more, get_or-take, get_or-drop, get_or-map, length-take-le, length-drop, length-map}
+use Rattle.std.proofs.lemmas.List.{take_more, get_or-take, get_or-drop, get_or-map, get_or_default, length-take-le, length-drop, length-map}
 use Rattle.std.proofs.lemmas.List.Elements.{Contains-push, Contains-push_cases, Contains-append_left, Contains-get_or, All-contains}
 use Rattle.bucket_walks.specs.Starts.{IsFirst, AreStarts, row_at}
 
@@ -45,7 +45,7 @@ module _ {X : Type 0} (key : X → ℕ) (starts : List ℕ) (items : List X) (v 
   ]
 
   pub row_within : get_or starts (v + 1) 0 ≤ length items
-  row_within = omega (arith, next.within, length-map key items)
+  row_within = omega (arith, next.within, length-map items key)
 
   pub row_has : (x : X) → Contains (row_at starts items v) x → Contains items x × (key x ≡ v)
   row_has x has =
@@ -58,7 +58,7 @@ module _ {X : Type 0} (key : X → ℕ) (starts : List ℕ) (items : List X) (v 
       let within : a + has.0 < length items = omega (arith, low_k, row_within) in
       let seen : get_or (map key items) (a + has.0) 0 ≡ key x = key_at (a + has.0) x within ∙ ap key is in (
         (a + has.0, within, is),
-        omega (arith, seen, here.from (a + has.0) (omega arith) (omega (arith, within, length-map key items)), next.before (a + has.0) (omega (arith, low_k, row_rises))),
+        omega (arith, seen, here.from (a + has.0) (omega arith) (omega (arith, within, length-map items key)), next.before (a + has.0) (omega (arith, low_k, row_rises))),
       )
 
   pub row_all : (x : X) → Contains items x → key x ≡ v → Contains (row_at starts items v) x
@@ -68,7 +68,7 @@ module _ {X : Type 0} (key : X → ℕ) (starts : List ℕ) (items : List X) (v 
       let k = has.0 in
       let seen : get_or (map key items) k 0 ≡ key x = key_at k x has.1 ∙ ap key has.2 in
       let from : a ≤ k = elim (cases_lt k a) [ inl lt ↦ absurd (omega (arith, here.before k lt, seen, at)) | inr le ↦ le ] in
-      let to : k < b = elim (cases_lt k b) [ inl lt ↦ lt | inr le ↦ absurd (omega (arith, next.from k le (omega (arith, has.1, length-map key items)), seen, at)) ] in
+      let to : k < b = elim (cases_lt k b) [ inl lt ↦ lt | inr le ↦ absurd (omega (arith, next.from k le (omega (arith, has.1, length-map items key)), seen, at)) ] in
       let low_k : k - a < b - a = omega arith in
       let size : length (take (b - a) (drop a items)) ≡ b - a =
       length-take-le (b - a) (drop a items) (omega (arith, length-drop a items, row_rises, row_within)) in
@@ -85,3 +85,7 @@ all_read P xs i x lt is all = subst P (sym is) (all i x lt)
 -- what holds of each element holds of each element of a part
 pub all_part : {X : Type 0} (P : X → Type 0) (xs ys : List X) → ((x : X) → Contains ys x → Contains xs x) → All P xs → All P ys
 all_part P xs ys part all = λ k d lt. All-contains P xs (get_or ys k d) all (part (get_or ys k d) (Contains-get_or ys k d lt))
+
+-- an element of a list, at its own default
+pub read_is : {X : Type 0} (xs : List X) (i : ℕ) (d : X) → i < length xs → get_or xs i d ≡ get_or xs i (get_or xs i d)
+read_is xs i d lt = get_or_default xs i d (get_or xs i d) lt

@@ -10,7 +10,7 @@ use Rattle.move_model.specs.declared.network.NodeNo.{NodeNo}
 use Rattle.move_model.specs.declared.network.StopNo.{StopNo}
 use Rattle.bucket_walks.specs.declared.bucket.Bucket.{Bucket}
 use Rattle.bucket_walks.specs.Buckets.{IsBefore}
-use Rattle.bucket_walks.specs.Gathered.{IsApart, AreApart}
+use Rattle.bucket_walks.specs.Gathered.{IsApart, AreApart, key_of}
 
 apart_at : (list : List Bucket) → AreApart list → (a b : ℕ) (d : Bucket) → a < length list → b < length list → a ≢ b → IsApart (get_or list a d) (get_or list b d)
 apart_at list apart a b d low_a low_b ne = elim (cases_lt a b) [
@@ -62,9 +62,6 @@ apart_swap list i j low_i low_j apart a b d lt low_b =
 
 pub apart_permutation : (list after : List Bucket) → IsPermutation list after → AreApart list → AreApart after
 apart_permutation list after moved apart = IsPermutation-keeps list AreApart apart apart_swap after moved
-
-abbrev pub key_of : Bucket → ℕ
-key_of entry = entry.node.0 * 4294967296 + entry.stop.0
 
 node_same : (x y : NodeNo) → x.0 ≡ y.0 → x ≡ y
 node_same x y e = ap (λ n. record { 0 = n }) e

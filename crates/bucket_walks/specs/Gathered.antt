@@ -1,5 +1,6 @@
 -- Which entries of the searches from the stops are kept.
 --     sums side h p v m          m seconds of arcs down lead from v to p; or of arcs up from p to v
+--     arcs_of side h             the arcs up; or the arcs down
 --     bypass_of side arc         the arc as its lesser end sees it
 --     leads_over side h v w l    an arc of l seconds leads up from v to w; or down from w to v
 --     AreBypasses side h all     all such arcs, by their lesser end
@@ -9,7 +10,8 @@
 --     IsKept .. entry            the entry is that of a settled vertex, and by no arc it is less
 --     AreApart entries           no two entries have the same vertex and the same stop
 --     IsEntryAt side h stops e   e is an entry to a stop; or from a stop
-use Rattle.std.specs.Prelude.{◌≡◌, ◌↔◌, ℕ, ◌+◌, ◌<◌, ◌≤◌, List, Option, Some, None, All, AllPairs, Contains, length, map, slice_index_or}
+--     key_of entry               rises by vertex, and then by stop
+use Rattle.std.specs.Prelude.{◌≡◌, ◌↔◌, ℕ, ◌+◌, ◌*◌, ◌<◌, ◌≤◌, List, Option, Some, None, All, AllPairs, Contains, length, map, slice_index_or}
 use Rattle.move_model.specs.declared.network.Stop.{Stop}
 use Rattle.move_model.specs.declared.network.StopNo.{StopNo}
 use Rattle.walk_laws.specs.Sums.{longest}
@@ -27,6 +29,10 @@ use Rattle.bucket_walks.specs.Buckets.{IsNeeded, IsEntry}
 abbrev pub sums : Side → Parts → ℕ → ℕ → ℕ → Type 0
 sums To h p v m = IsDownSum h v p m
 sums From h p v m = IsUpSum h p v m
+
+abbrev pub arcs_of : Side → Parts → List UpDown
+arcs_of To h = h.up
+arcs_of From h = h.down
 
 abbrev pub bypass_of : Side → UpDown → Bypass
 bypass_of To arc = record { seconds = arc.seconds; node = arc.from; over = arc.to }
@@ -96,3 +102,7 @@ IsEntryAt side h = IsEntry (IsNeededAt side h)
 
 abbrev pub AreEntries : Side → Parts → List Stop → List Bucket → Type 0
 AreEntries side h stops list = (entry : Bucket) → Contains list entry ↔ IsEntryAt side h stops entry
+
+-- rises by vertex, and then by stop
+abbrev pub key_of : Bucket → ℕ
+key_of entry = entry.node.0 * 4294967296 + entry.stop.0

@@ -43,6 +43,13 @@ impl Model for Buckets {
         buckets.to_starts.items buckets.from_starts.items };
 }
 
+// The vertices of entries.
+fn vertices(alloc: Global, list: &[Bucket]) -> Result<Vec<u32>, NoMemory>
+    ensures { IfOk result (λ vertices. vertices.items ≡ nodes_of list.now) }
+{
+    list.iter().map(|entry| entry.node.0).collect(alloc)
+}
+
 // Where the entries of each vertex begin.
 fn starts_of(alloc: Global, nodes: u32, list: &[Bucket]) -> Result<Vec<u32>, NoMemory>
     requires in_order { AllAdjacentBelow IsBefore list.now (length list.now) }
@@ -53,8 +60,8 @@ fn starts_of(alloc: Global, nodes: u32, list: &[Bucket]) -> Result<Vec<u32>, NoM
     if list.len() > u32::MAX as usize {
         return Err(NoMemory);
     }
-    let keys: Vec<u32> = list.iter().map(|entry| entry.node.0).collect(alloc)?;
-    starts(alloc, nodes, &keys)
+    let vertices = vertices(alloc, list)?;
+    starts(alloc, nodes, &vertices)
 }
 
 impl Buckets {

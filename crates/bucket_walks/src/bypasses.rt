@@ -1,8 +1,9 @@
 // The arcs past each vertex to greater ranks, by which a way between the vertex and a stop may be shorter.
-ghost use Rattle.std.specs.Prelude.{◌≡◌, ◌↔◌, ◌+◌, ◌<◌, Contains, IfOk, length};
+ghost use Rattle.std.specs.Prelude.{◌≡◌, ◌↔◌, ◌+◌, ◌<◌, Contains, IfOk, length, map};
+ghost use Rattle.std.specs.List.Sorted.{IsNonDecreasingBy, IsPermutation};
 ghost use Rattle.bucket_walks.specs.declared.bypasses.Bypass.{Bypass};
 ghost use Rattle.bucket_walks.specs.Starts.{AreStarts};
-ghost use Rattle.bucket_walks.specs.Gathered.{bypass_of, heads_of, AreBypasses};
+ghost use Rattle.bucket_walks.specs.Gathered.{arcs_of, bypass_of, heads_of, AreBypasses};
 
 use crate::starts::{row, starts};
 use move_model::{NoMemory, NodeNo};
@@ -38,6 +39,41 @@ fn arc_past(side: Side, arc: &UpDown) -> Bypass
     }
 }
 
+// The arcs that lead past the vertices: up out of them, or down into them.
+fn given(side: Side, hierarchy: &Hierarchy) -> &[UpDown]
+    ensures { result.now ≡ arcs_of side hierarchy.now }
+{
+    match side {
+        Side::To => hierarchy.up_arcs(),
+        Side::From => hierarchy.down_arcs(),
+    }
+}
+
+fn all_past(alloc: Global, side: Side, arcs: &[UpDown]) -> Result<Vec<Bypass>, NoMemory>
+    ensures { IfOk result (λ all. all.items ≡ map (bypass_of side) arcs.now) }
+{
+    let mut all = Vec::with_capacity(alloc, arcs.len())?;
+    for arc in arcs {
+        all.push(arc_past(side, arc))?;
+    }
+    Ok(all)
+}
+
+// Puts the arcs in the order of their vertices.
+fn sort_arcs(arcs: &mut Vec<Bypass>)
+    ensures same { IsPermutation arcs.old.items arcs.new.items }
+    ensures rise { IsNonDecreasingBy (λ arc. arc.node.0) arcs.new.items }
+{
+    arcs.sort_unstable_by_key(|arc| arc.node.0);
+}
+
+// The vertices of arcs.
+fn heads(alloc: Global, arcs: &[Bypass]) -> Result<Vec<u32>, NoMemory>
+    ensures { IfOk result (λ heads. heads.items ≡ heads_of arcs.now) }
+{
+    arcs.iter().map(|arc| arc.node.0).collect(alloc)
+}
+
 // The arcs of each vertex, one vertex behind the other.
 #[derive(Debug, Drop)]
 pub(crate) struct Bypasses {
@@ -55,17 +91,13 @@ impl Bypasses {
         ensures { IfOk result (AreBypasses side hierarchy.now) }
     {
         let nodes = hierarchy.nodes();
-        let given = match side {
-            Side::To => hierarchy.up_arcs(),
-            Side::From => hierarchy.down_arcs(),
-        };
-        if given.len() > u32::MAX as usize {
+        let mut arcs = all_past(alloc, side, given(side, hierarchy))?;
+        sort_arcs(&mut arcs);
+        if arcs.len() > u32::MAX as usize {
             return Err(NoMemory);
         }
-        let mut arcs: Vec<Bypass> = given.iter().map(|arc| arc_past(side, arc)).collect(alloc)?;
-        arcs.sort_unstable_by_key(|arc| arc.node.0);
-        let keys: Vec<u32> = arcs.iter().map(|arc| arc.node.0).collect(alloc)?;
-        let starts = starts(alloc, nodes, &keys)?;
+        let heads = heads(alloc, &arcs)?;
+        let starts = starts(alloc, nodes, &heads)?;
         Ok(Bypasses { starts, arcs })
     }
 

@@ -1,12 +1,13 @@
 // The entries of all stops.
 ghost use Rattle.std.specs.Prelude.{◌≡◌, ◌≢◌, ◌↔◌, ◌⊎◌, ◌+◌, ◌<◌, ◌≤◌, ◌*◌, ℕ, All, AllPairs, Contains, IfOk, IsTrue, OnOk, length};
+ghost use Rattle.std.specs.List.Sorted.{IsNonDecreasingBy, IsPermutation};
 ghost use Rattle.walk_laws.specs.Sums.{longest};
 ghost use Rattle.walk_hierarchy.specs.Hierarchy.{IsNode, AreSettled};
 ghost use Rattle.bucket_walks.specs.declared.bucket.Bucket.{Bucket};
 ghost use Rattle.bucket_walks.specs.declared.bypasses.Side.TheVariants.{To, From};
 ghost use Rattle.bucket_walks.specs.Starts.{AreStarts};
 ghost use Rattle.bucket_walks.specs.Buckets.{AreBuckets};
-ghost use Rattle.bucket_walks.specs.Gathered.{sums, heads_of, AreBypasses, IsUnmarked, AreMarked, HasOneEach, HasFew, IsShortBy, HasNoShort, IsDirect, IsKept, AreApart, IsEntryOf, AreEntries};
+ghost use Rattle.bucket_walks.specs.Gathered.{sums, heads_of, AreBypasses, IsUnmarked, AreMarked, HasOneEach, HasFew, IsShortBy, HasNoShort, IsDirect, IsKept, AreApart, IsEntryOf, AreEntries, key_of};
 
 use crate::bucket::{Bucket, BucketList};
 use crate::bypasses::{Bypass, Bypasses, Side};
@@ -184,7 +185,8 @@ fn by_stop<L: Ledger>(
     ensures nodes { work.new.nodes ≡ work.old.nodes }
 {
     let bypasses = Bypasses::new(alloc, side, hierarchy)?;
-    let mut marks = vec![in alloc; None; hierarchy.nodes() as usize + 1]?;
+    let mut seconds = vec![in alloc; None; hierarchy.nodes() as usize + 1]?;
+    let marks = seconds.as_mut_slice();
     let mut list = Vec::new(alloc);
     for (number, stop) in stops.iter().enumerate() {
         add_stop(
@@ -195,7 +197,7 @@ fn by_stop<L: Ledger>(
             stop.node,
             work,
             searches,
-            &mut marks,
+            marks,
             &mut list,
         )?;
     }
@@ -203,10 +205,18 @@ fn by_stop<L: Ledger>(
 }
 
 // Rises by vertex, and then by stop.
-fn order_key(entry: &Bucket) -> u64
-    ensures { result ≡ entry.now.node.0 * 4294967296 + entry.now.stop.0 }
+fn order_key(node: NodeNo, stop: StopNo) -> u64
+    ensures { result ≡ node.0 * 4294967296 + stop.0 }
 {
-    u64::from(entry.node.0) * 4_294_967_296 + u64::from(entry.stop.0)
+    u64::from(node.0) * 4_294_967_296 + u64::from(stop.0)
+}
+
+// Puts entries in the order of their vertices, and then of their stops.
+fn sort_entries(list: &mut Vec<Bucket>)
+    ensures same { IsPermutation list.old.items list.new.items }
+    ensures rise { IsNonDecreasingBy key_of list.new.items }
+{
+    list.sort_unstable_by_key(|entry| order_key(entry.node, entry.stop));
 }
 
 // The entries of all stops, by vertex and then by stop.
@@ -225,8 +235,9 @@ fn entries<L: Ledger>(
     ensures rules { IfOk result (AreBuckets (length hierarchy.now.ranks) (length stops.now)) }
     ensures nodes { work.new.nodes ≡ work.old.nodes }
 {
+    let _ = hierarchy.nodes();
     let mut list = by_stop(alloc, side, hierarchy, stops, work, searches)?;
-    list.sort_unstable_by_key(order_key);
+    sort_entries(&mut list);
     Ok(List::from_vec(list))
 }
 

@@ -1,22 +1,21 @@
-use Rattle.std.proofs.Common.{◌≡◌, ◌+◌, ◌<◌, ◌≤◌, List, length, take, sym, subst, arith}
+use Rattle.std.proofs.Common.{◌≡◌, ◌+◌, ◌<◌, ◌≤◌, List, length, take, slice_index_or, sym, subst, arith}
 use Rattle.std.specs.Prelude.{All}
 use Rattle.std.proofs.lemmas.List.{take_all}
 use Rattle.walk_laws.specs.Sums.{longest}
 use Rattle.walk_hierarchy.specs.declared.settled.Settled.{Settled}
 use Rattle.bucket_walks.specs.declared.bucket.Bucket.{Bucket}
 use Rattle.bucket_walks.specs.Scan.{Lowers, IsOver}
-use Rattle.bucket_walks.proofs.ListLemmas.{none_taken, all_read, all_part}
+use Rattle.bucket_walks.proofs.ListLemmas.{none_taken, read_is, all_part}
 use Rattle.bucket_walks.proofs.LowerLemmas.{lowers_nothing}
 use Rattle.bucket_walks.proofs.ScanLemmas.{lowers_over_more}
 use Rattle.bucket_walks.proofs.scan.scan.Goals as goal
 
+abbrev nowhere : Settled
+nowhere = record { node = record { 0 = 0 }; seconds = 0 }
+
 pub loop-there-init : goal.loop-there-init
 loop-there-init c =
     lowers_nothing c.args.walks.now (IsOver (take 0 c.args.settled.now) c.args.list.now) (λ p m over. none_taken c.args.settled.now over.there over.comes)
-
-pub entries_at-requires-clause-exists : goal.entries_at-requires-clause-exists
-entries_at-requires-clause-exists c =
-    all_read (λ (there : Settled). there.node.0 + 1 < length c.args.starts.now) c.args.settled.now c.loop-there.there-index c.there-item.result (omega arith) c.there-item.is c.requires.exist
 
 pub lower_by-requires-clause-stops : goal.lower_by-requires-clause-stops
 lower_by-requires-clause-stops c =
@@ -27,15 +26,12 @@ pub lower_by-requires-clause-short : goal.lower_by-requires-clause-short
 lower_by-requires-clause-short c =
     all_part (λ (entry : Bucket). entry.seconds ≤ longest) c.args.list.now c.entries_at.result.now (λ entry has. ((c.entries_at.ensures entry).0 has).0) c.requires.short
 
-pub lower_by-requires-clause-few : goal.lower_by-requires-clause-few
-lower_by-requires-clause-few c =
-    all_read (λ (there : Settled). there.seconds ≤ 4000000000000000000) c.args.settled.now c.loop-there.there-index c.there-item.result (omega arith) c.there-item.is c.requires.few
-
 pub loop-there-preserved : goal.loop-there-preserved
 loop-there-preserved c =
-    lowers_over_more c.args.settled.now c.args.list.now c.entries_at.result.now c.loop-there.there-index c.there-item.result (omega arith) c.there-item.is c.entries_at.ensures
-    c.args.walks.now c.loop-there.walks c.lower_by.new.walks
-    c.loop-there.invariant c.lower_by.ensures
+    let settled = c.args.settled.now in
+    let i = c.loop-there.there-index in
+    lowers_over_more settled c.args.list.now c.entries_at.result.now i (slice_index_or settled i nowhere) c.loop-there-test.true (read_is settled i nowhere c.loop-there-test.true)
+    c.entries_at.ensures c.args.walks.now c.loop-there.walks c.lower_by.new.walks c.loop-there.invariant c.lower_by.ensures
 
 pub returns : goal.returns
 returns c =

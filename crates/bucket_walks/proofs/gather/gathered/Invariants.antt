@@ -1,0 +1,4 @@
+use Rattle.bucket_walks.proofs.gather.gathered.Given as goal
+
+abbrev pub ghosts-counted : goal.ghosts-counted
+ghosts-counted a = record { name = a.blank.name; parts = a.blank.parts }
