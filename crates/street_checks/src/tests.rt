@@ -18,7 +18,7 @@ use walk_order::{Hierarchy, order};
 
 // How large the graph of a seed is: its vertices, and its pairs of ends.
 fn size_of(seed: u64) -> (u32, u32) {
-    let nodes = (seed % 30) as u32 + 1;
+    let nodes = (seed % 37) as u32 + 1;
     let pairs = match seed % 3 {
         0 => nodes,
         1 => nodes.saturating_mul(2),
@@ -65,7 +65,7 @@ fn difference_of(alloc: Global, graph: &Graph, seed: u64) -> Result<Option<Diffe
 
 #[test]
 fn answers_as_plain_search(rt: HostRuntime) -> Result<(), Fail> {
-    for seed in 0..40u64 {
+    for seed in 0..400u64 {
         let (nodes, pairs) = size_of(seed);
         let graph = graph_of(rt.alloc(), seed, nodes, pairs)?.ok_or("the graph is refused")?;
         let found = difference_of(rt.alloc(), &graph, seed)?;
