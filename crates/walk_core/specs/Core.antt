@@ -6,7 +6,8 @@
 --     IsCoreArc, IsArcUp, IsArcDown core p q l   an arc of the core, an arc up or an arc down leads from p to q in l seconds
 --     IsWay core a b m                   arcs up, then arcs of the core, then arcs down lead from a to b, in m seconds in all
 --     HasDifferentEnds row               no two arcs of the list have the same other end
---     AreArcs core                       the arcs lead to where was contracted later or not at all, one to each vertex
+--     AreArcs core                       the arcs lead to where was contracted later or not at all, one to each vertex, and none is
+--                                        too long
 --     IsUnfolded graph core p q arc      the arc is a least street, or stands for an arc down to its middle and an arc up from there
 --     state_of core                      its lists of arcs and its ranks
 --     IsContraction graph core           the core is one of the graph: its distances are those of the streets
@@ -114,9 +115,12 @@ pub record AreUnfolded (graph : Streets) (core : Contraction) : Type 0 where
   pub up : (v : NodeNo) → All (λ arc. IsUnfolded graph core v arc.to arc.seconds arc.middle) (up_row core v.0)
   pub down : (v : NodeNo) → All (λ arc. IsUnfolded graph core arc.to v arc.seconds arc.middle) (down_row core v.0)
 
+-- what a further contraction goes on from
 abbrev pub state_of : Contraction → View
 state_of core = record { out = core.arcs_out; into = core.arcs_into; rank = core.ranks }
 
+-- The lists of all vertices keep the distances and the rule on middles, those into a vertex of the core too, so that more
+-- vertices can be contracted.
 pub record IsContraction (graph : Streets) (core : Contraction) : Type 0 where
   pub limits : IsWithinLimits graph
   pub nodes : core.nodes ≡ graph.nodes
@@ -131,5 +135,6 @@ pub record IsContraction (graph : Streets) (core : Contraction) : Type 0 where
   pub core_distances : (a b : NodeNo) (r : Option ℕ) → Holds core a → Holds core b
       → HasLeast (IsSum (IsCoreArc core) a.0 b.0) r ↔ HasDistance graph a b r
 
+-- whatever the graph
 abbrev pub IsCore : Contraction → Type 0
 IsCore core = (graph : Streets) × IsContraction graph core
