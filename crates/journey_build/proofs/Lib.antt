@@ -1,0 +1,5 @@
+pub mod WalkLemmas
+pub mod StopLemmas
+pub mod BrokenLaws
+pub mod WayLaws
+pub mod PairRules
