@@ -46,8 +46,8 @@ module _ (n : Network) (h : Parts) (from : NodeNo) (depart : ℕ) (all : List Ri
     ways = All-push (IsLeastWay (streets n) h) so_far leg.walk way.ways leg_is.way;
   }
     where
-    left_over : (ride : Ride) → i < length all → ride ≡ get_or all i ride → drop i all ≡ ride ∷ drop (i + 1) all
-    left_over ride lt is = drop_more all i ride lt ∙ ap (λ (x : Ride). x ∷ drop (i + 1) all) (sym is)
+      left_over : (ride : Ride) → i < length all → ride ≡ get_or all i ride → drop i all ≡ ride ∷ drop (i + 1) all
+      left_over ride lt is = drop_more all i ride lt ∙ ap (λ (x : Ride). x ∷ drop (i + 1) all) (sym is)
 
   pub misses : (ride : Ride) → i < length all → ride ≡ get_or all i ride → IsMissed n h p r ride → IsBroken n h from depart all to
   misses ride lt is missed =

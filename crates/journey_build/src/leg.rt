@@ -7,7 +7,7 @@ ghost use Rattle.journey_build.specs.Leg.{IsLeg};
 
 use crate::calls::{calls_of, node_at};
 use crate::seconds::walk_seconds;
-use move_model::{NoMemory, Network, NodeNo, Ride, Walk};
+use move_model::{Network, NoMemory, NodeNo, Ride, Walk};
 use std::alloc::Global;
 use std::sync::ledger::Ledger;
 use steps::Steps;

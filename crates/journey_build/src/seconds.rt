@@ -40,7 +40,6 @@ fn street_of(arcs: &[UpDown], from: NodeNo, to: NodeNo) -> Option<u64>
     }
 }
 
-
 // The seconds of the least street between two vertices.
 fn least_street(arcs: &[Arc], from: NodeNo, to: NodeNo) -> Option<u32>
     ensures { HasLeastArc arcs.now from to result }

@@ -160,7 +160,14 @@ fn builds_two_rides(rt: HostRuntime) -> Result<(), Fail> {
     if network.check().is_err() {
         return Err(Fail::from("no network"));
     }
-    let both = built::<Brand>(alloc, Blank::new(1), &network, 4, 28500, &[ride(0), ride(1)])?;
+    let both = built::<Brand>(
+        alloc,
+        Blank::new(1),
+        &network,
+        4,
+        28500,
+        &[ride(0), ride(1)],
+    )?;
     assert!(rt; both.is_some());
     if let Some(journey) = &both {
         let walks = journey.walks.as_slice();
@@ -169,7 +176,14 @@ fn builds_two_rides(rt: HostRuntime) -> Result<(), Fail> {
         assert!(rt; is_walk(walks, 1, &[NodeNo(2), NodeNo(3)]));
         assert!(rt; is_walk(walks, 2, &[NodeNo(4)]));
     }
-    let missed = built::<Brand>(alloc, Blank::new(1), &network, 4, 28801, &[ride(0), ride(1)])?;
+    let missed = built::<Brand>(
+        alloc,
+        Blank::new(1),
+        &network,
+        4,
+        28801,
+        &[ride(0), ride(1)],
+    )?;
     assert!(rt; missed.is_none());
     let no_ride = built::<Brand>(alloc, Blank::new(1), &network, 4, 28500, &[ride(2)])?;
     assert!(rt; no_ride.is_none());

@@ -5,7 +5,7 @@ ghost use Rattle.walk_hierarchy.specs.Hierarchy.{IsNode, IsOver, GivesDistances}
 ghost use Rattle.journey_build.specs.Built.{IsBuilt, IsBroken, IsLeastWalk, HasRides};
 
 use crate::leg::next_leg;
-use move_model::{Journey, NoMemory, Network, NodeNo, RideList, Walks};
+use move_model::{Journey, Network, NoMemory, NodeNo, RideList, Walks};
 use std::alloc::Global;
 use std::sync::ledger::Ledger;
 use steps::Steps;
