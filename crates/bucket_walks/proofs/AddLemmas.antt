@@ -4,7 +4,6 @@ use Rattle.std.specs.Prelude.{All, AllPairs, Contains}
 use Rattle.std.proofs.lemmas.List.{get_or-take, get_or_default, length-take-le, take_all}
 use Rattle.std.proofs.lemmas.List.Elements.{Contains-get_or, Contains-push, Contains-push_cases, Contains-append_left, All-contains}
 use Rattle.std.proofs.lemmas.List.Quantifiers.{all_pairs_push}
-use Rattle.move_model.specs.declared.network.NodeNo.{NodeNo}
 use Rattle.move_model.specs.declared.network.StopNo.{StopNo}
 use Rattle.walk_hierarchy.specs.declared.settled.Settled.{Settled}
 use Rattle.bucket_walks.specs.declared.bucket.Bucket.{Bucket}

@@ -1,11 +1,8 @@
 -- Sums of arcs up and of arcs down: where they lead, and how many seconds they have at most.
-use Rattle.std.proofs.Common.{◌≡◌, ◌+◌, ◌-◌, ◌*◌, ◌<◌, ◌≤◌, ℕ, List, length, get_or, refl, sym, ap, subst, arith}
-use Rattle.std.specs.Prelude.{All, Contains}
+use Rattle.std.proofs.Common.{◌+◌, ◌-◌, ◌*◌, ◌<◌, ◌≤◌, ℕ, length, arith}
 use Rattle.std.proofs.lemmas.List.Elements.{All-contains, All-get_or}
-use Rattle.move_model.specs.declared.network.NodeNo.{NodeNo}
-use Rattle.walk_laws.specs.Sums.{IsSum, longest}
+use Rattle.walk_laws.specs.Sums.{longest}
 use Rattle.walk_laws.specs.Sums.IsSum.{none, more}
-use Rattle.walk_hierarchy.specs.declared.arcs.UpDown.{UpDown}
 use Rattle.walk_hierarchy.specs.Hierarchy.{Parts, IsNode, HasArc, IsArcUp, IsArcDown, IsHierarchy, IsUpSum, IsDownSum, rank_of}
 
 module _ (h : Parts) (rules : IsHierarchy h) where

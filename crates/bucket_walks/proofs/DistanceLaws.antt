@@ -1,19 +1,17 @@
 -- The rows of walks are distances, for the buckets of a hierarchy that keeps the distances of its streets.
-use Rattle.std.proofs.Common.{◌≡◌, ◌∙◌, ◌+◌, ◌<◌, ◌≤◌, ◌↔◌, ℕ, List, Option, Some, None, length, get_or, refl, sym, ap, subst, inl, inr, arith}
-use Rattle.std.specs.Prelude.{All, Contains, slice_get}
+use Rattle.std.proofs.Common.{◌≡◌, ◌∙◌, ◌+◌, ◌≤◌, ℕ, List, Option, Some, None, get_or, refl, sym, ap, subst, inl, inr, arith}
+use Rattle.std.specs.Prelude.{slice_get}
 use Rattle.std.proofs.lemmas.Bool.{cases_lt}
 use Rattle.std.proofs.lemmas.Option.{slice_get_within, get_or_from_slice_get}
 use Rattle.move_model.specs.declared.network.NodeNo.{NodeNo}
 use Rattle.move_model.specs.declared.network.Stop.{Stop}
 use Rattle.move_model.specs.Streets.{Streets, IsVertex, HasDistance}
-use Rattle.walk_laws.specs.Sums.{IsSum, IsLeast, HasLeast, IsShort, longest}
+use Rattle.walk_laws.specs.Sums.{IsSum, HasLeast, IsShort, longest}
 use Rattle.walk_laws.specs.Sums.IsSum.{more}
 use Rattle.walk_laws.proofs.SumLemmas.{IsSum-append, IsSum-one}
 use Rattle.walk_hierarchy.specs.Hierarchy.{Parts, IsNode, HasArc, IsUpSum, IsDownSum, IsUpDownSum, GivesDistances}
-use Rattle.bucket_walks.specs.declared.bucket.Bucket.{Bucket}
-use Rattle.bucket_walks.specs.Buckets.{Parts as BucketParts, IsNeeded, IsNeededTo, IsNeededFrom, IsEntryTo, IsEntryFrom, AreBucketsOf, IsFirstSum, IsLastSum, HoldsFirst, HoldsLast, HoldsDistancesFrom, HoldsDistancesTo}
+use Rattle.bucket_walks.specs.Buckets.{Parts as BucketParts, IsEntryTo, IsEntryFrom, AreBucketsOf, IsFirstSum, IsLastSum, HoldsFirst, HoldsLast, HoldsDistancesFrom, HoldsDistancesTo}
 use Rattle.bucket_walks.proofs.LeastLaws.{not_without, not_without_needed}
-use Rattle.bucket_walks.proofs.LowerLemmas.{least_of}
 
 -- what is least of some sums is the distance, where they are sums of arcs up and down and none of these is without one that is no greater
 module _ (h : Parts) (graph : Streets) (gives : GivesDistances graph h) (short : IsShort graph) (a b : NodeNo) (is_a : IsNode h a) (is_b : IsNode h b)

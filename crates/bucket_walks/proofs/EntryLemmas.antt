@@ -1,5 +1,5 @@
 -- The entries of the first stops, and one stop on.
-use Rattle.std.proofs.Common.{◌≡◌, ◌∙◌, ◌+◌, ◌<◌, ◌≤◌, ◌⊎◌, ◌↔◌, ℕ, List, Option, Some, length, get_or, refl, sym, ap, subst, inl, inr, arith}
+use Rattle.std.proofs.Common.{◌≡◌, ◌∙◌, ◌+◌, ◌<◌, ◌≤◌, ◌⊎◌, ◌↔◌, ℕ, List, Option, Some, length, get_or, sym, ap, subst, inl, inr, arith}
 use Rattle.std.specs.Prelude.{All, Contains, slice_get}
 use Rattle.std.proofs.lemmas.Bool.{cases_eq}
 use Rattle.std.specs.List.Sorted.{IsPermutation, IsNonDecreasingBy}
@@ -11,7 +11,7 @@ use Rattle.move_model.specs.declared.network.StopNo.{StopNo}
 use Rattle.walk_hierarchy.specs.Hierarchy.{Parts, IsNode, IsHierarchy}
 use Rattle.bucket_walks.specs.declared.bucket.Bucket.{Bucket}
 use Rattle.bucket_walks.specs.declared.bypasses.Side.{Side}
-use Rattle.bucket_walks.specs.Buckets.{IsBucket, AreBuckets, IsEntry}
+use Rattle.bucket_walks.specs.Buckets.{IsBucket, AreBuckets}
 use Rattle.bucket_walks.specs.Gathered.{IsNeededAt, IsEntryOf, IsEntryAt, AreEntries, AreApart, key_of}
 use Rattle.bucket_walks.proofs.KeptLemmas.{sums_node}
 use Rattle.bucket_walks.proofs.OrderLemmas.{apart_permutation, in_order}

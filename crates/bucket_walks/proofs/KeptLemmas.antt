@@ -1,20 +1,19 @@
 -- The entries of a stop: what its search and the arcs past its vertices say of the hierarchy.
-use Rattle.std.proofs.Common.{◌≡◌, ◌≢◌, ◌∙◌, ◌+◌, ◌<◌, ◌≤◌, ◌⊎◌, ◌↔◌, ℕ, List, Option, Some, None, length, get_or, refl, sym, ap, subst, inl, inr, arith}
-use Rattle.std.specs.Prelude.{All, AllPairs, Contains}
+use Rattle.std.proofs.Common.{◌≡◌, ◌+◌, ◌<◌, ◌≤◌, ℕ, List, Option, length, get_or, refl, subst, inl, inr, arith}
+use Rattle.std.specs.Prelude.{All, Contains}
 use Rattle.std.proofs.lemmas.Bool.{cases_lt}
 use Rattle.std.proofs.lemmas.List.Elements.{Contains-get_or}
 use Rattle.move_model.specs.declared.network.NodeNo.{NodeNo}
 use Rattle.move_model.specs.declared.network.StopNo.{StopNo}
-use Rattle.walk_laws.specs.Sums.{IsLeast, longest}
+use Rattle.walk_laws.specs.Sums.{longest}
 use Rattle.walk_hierarchy.specs.declared.settled.Settled.{Settled}
-use Rattle.walk_hierarchy.specs.Hierarchy.{Parts, IsNode, IsHierarchy, HasArc, AreSettled}
+use Rattle.walk_hierarchy.specs.Hierarchy.{Parts, IsNode, IsHierarchy, AreSettled}
 use Rattle.bucket_walks.specs.declared.bucket.Bucket.{Bucket}
 use Rattle.bucket_walks.specs.declared.bypasses.Side.{Side}
 use Rattle.bucket_walks.specs.declared.bypasses.Side.TheVariants.{To, From}
 use Rattle.bucket_walks.specs.declared.bypasses.Bypass.{Bypass}
 use Rattle.bucket_walks.specs.declared.bypasses.Bypasses.{Bypasses}
-use Rattle.bucket_walks.specs.Buckets.{IsNeeded}
-use Rattle.bucket_walks.specs.Gathered.{sums, leads_over, AreBypasses, AreMarked, HasOneEach, HasFew, IsShortBy, IsKept, IsEntryOf}
+use Rattle.bucket_walks.specs.Gathered.{sums, leads_over, AreBypasses, AreMarked, HasOneEach, HasFew, IsKept, IsEntryOf}
 use Rattle.bucket_walks.proofs.LeastLaws.{not_without, least_same}
 use Rattle.bucket_walks.proofs.BoundLemmas.{arc_up, arc_down, up_end, up_few, down_begin, down_few}
 

@@ -1,9 +1,8 @@
 -- Marks, one settled vertex on.
-use Rattle.std.proofs.Common.{◌≡◌, ◌≢◌, ◌∙◌, ◌+◌, ◌<◌, ◌≤◌, ◌⊎◌, ◌↔◌, ℕ, List, [], Option, Some, None, length, take, get_or, set, refl, sym, ap, subst, inl, inr, arith}
-use Rattle.std.specs.Prelude.{All, AllPairs, Contains}
+use Rattle.std.proofs.Common.{◌≡◌, ◌∙◌, ◌+◌, ◌<◌, ℕ, List, [], Option, Some, None, length, take, get_or, set, refl, sym, ap, subst, inl, inr, arith}
+use Rattle.std.specs.Prelude.{Contains}
 use Rattle.std.proofs.lemmas.Bool.{cases_eq}
-use Rattle.std.proofs.lemmas.List.{get_or-set_same, get_or-set_other, take_all}
-use Rattle.move_model.specs.declared.network.NodeNo.{NodeNo}
+use Rattle.std.proofs.lemmas.List.{get_or-set_same, get_or-set_other}
 use Rattle.walk_hierarchy.specs.declared.settled.Settled.{Settled}
 use Rattle.bucket_walks.specs.Gathered.{AreMarked, HasOneEach, IsUnmarked}
 use Rattle.bucket_walks.proofs.ListLemmas.{taken_cases, taken_before, taken_last, taken_from}

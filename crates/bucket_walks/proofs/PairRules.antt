@@ -1,14 +1,13 @@
 -- The two pairs of the tests are a hierarchy over their streets.
-use Rattle.std.proofs.Common.{◌≡◌, ◌≢◌, ◌<◌, ◌≤◌, ◌+◌, ◌-◌, ℕ, zero, suc, List, [], ◌∷◌, length, slice_index_or, refl, sym, ap, inl, inr, arith}
+use Rattle.std.proofs.Common.{◌≡◌, ◌≢◌, ◌<◌, ◌≤◌, ℕ, zero, suc, [], ◌∷◌, slice_index_or, refl, ap, inl, arith}
 use Rattle.std.specs.Prelude.{All, AllPairs, Contains}
 use Rattle.std.specs.List.{AllAdjacentBelow}
 use Rattle.std.proofs.lemmas.List.Elements.{All-cons}
 use Rattle.std.proofs.lemmas.List.Kept.{AllPairs-cons}
-use Rattle.move_model.specs.declared.network.NodeNo.{NodeNo}
 use Rattle.move_model.specs.declared.network.Arc.{Arc}
 use Rattle.move_model.specs.Streets.{IsLeastArc}
 use Rattle.walk_hierarchy.specs.declared.arcs.UpDown.{UpDown}
-use Rattle.walk_hierarchy.specs.Hierarchy.{Parts, IsNode, IsArcUp, IsArcDown, IsBefore, IsMade, IsHierarchy, IsLeastStreet, IsOver}
+use Rattle.walk_hierarchy.specs.Hierarchy.{IsNode, IsArcUp, IsArcDown, IsBefore, IsMade, IsHierarchy, IsLeastStreet, IsOver}
 use Rattle.bucket_walks.specs.Pairs.{street_by, arc_by, pair_streets, two_pairs}
 
 all_none : {A : Type 0} (P : A → Type 0) → All P []

@@ -1,5 +1,5 @@
 -- One entry on, one settled vertex on, and the whole of a row.
-use Rattle.std.proofs.Common.{◌≡◌, ◌∙◌, ◌+◌, ◌<◌, ◌≤◌, ◌⊎◌, ◌↔◌, ℕ, List, Option, Some, None, length, take, get_or, refl, sym, ap, subst, inl, inr, arith}
+use Rattle.std.proofs.Common.{◌≡◌, ◌∙◌, ◌+◌, ◌<◌, ◌⊎◌, ◌↔◌, ℕ, List, Option, Some, None, length, take, get_or, sym, ap, inl, inr, arith}
 use Rattle.std.specs.Prelude.{Contains}
 use Rattle.move_model.specs.declared.network.NodeNo.{NodeNo}
 use Rattle.walk_laws.specs.Sums.{HasLeast}

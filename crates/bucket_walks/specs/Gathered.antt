@@ -11,7 +11,7 @@
 --     AreApart entries           no two entries have the same vertex and the same stop
 --     IsEntryAt side h stops e   e is an entry to a stop; or from a stop
 --     key_of entry               rises by vertex, and then by stop
-use Rattle.std.specs.Prelude.{◌≡◌, ◌↔◌, ℕ, ◌+◌, ◌*◌, ◌<◌, ◌≤◌, List, Option, Some, None, All, AllPairs, Contains, length, map, slice_index_or}
+use Rattle.std.specs.Prelude.{◌≡◌, ◌↔◌, ℕ, ◌+◌, ◌*◌, ◌<◌, ◌≤◌, List, Option, Some, None, AllPairs, Contains, length, map, slice_index_or}
 use Rattle.move_model.specs.declared.network.Stop.{Stop}
 use Rattle.move_model.specs.declared.network.StopNo.{StopNo}
 use Rattle.walk_laws.specs.Sums.{longest}

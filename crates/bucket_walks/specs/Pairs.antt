@@ -1,5 +1,5 @@
 -- Two pairs of vertices, with streets between those of each pair.
-use Rattle.std.specs.Prelude.{ℕ, List, [], ◌∷◌}
+use Rattle.std.specs.Prelude.{ℕ, [], ◌∷◌}
 use Rattle.move_model.specs.declared.network.Arc.{Arc}
 use Rattle.move_model.specs.Streets.{Streets}
 use Rattle.walk_hierarchy.specs.declared.arcs.UpDown.{UpDown}

@@ -238,6 +238,7 @@ fn entries<L: Ledger>(
     let _ = hierarchy.nodes();
     let mut list = by_stop(alloc, side, hierarchy, stops, work, searches)?;
     sort_entries(&mut list);
+    list.shrink_to_fit();
     Ok(List::from_vec(list))
 }
 

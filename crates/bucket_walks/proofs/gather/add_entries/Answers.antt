@@ -1,9 +1,8 @@
-use Rattle.std.proofs.Common.{◌≡◌, ◌<◌, ◌≤◌, List, [], ◌∷◌, ◌++◌, length, take, slice_index_or, refl, false, IsTrue, sym, ap, subst, arith}
+use Rattle.std.proofs.Common.{◌≡◌, [], ◌∷◌, ◌++◌, slice_index_or, refl, false, IsTrue, arith}
 use Rattle.std.proofs.lemmas.Grind.{common_steps}
 use Rattle.walk_hierarchy.specs.declared.settled.Settled.{Settled}
-use Rattle.bucket_walks.specs.declared.bucket.Bucket.{Bucket}
 use Rattle.bucket_walks.proofs.ListLemmas.{read_is}
-use Rattle.bucket_walks.proofs.AddLemmas.{AreKept, entry_of, kept_none, kept_pushed, kept_passed, apart_pushed, kept_all}
+use Rattle.bucket_walks.proofs.AddLemmas.{entry_of, kept_none, kept_pushed, kept_passed, apart_pushed, kept_all}
 use Rattle.bucket_walks.proofs.gather.add_entries.Goals as goal
 use Rattle.bucket_walks.proofs.gather.add_entries.Goals.{then-is_direct+in_ok-push, else-is_direct}
 

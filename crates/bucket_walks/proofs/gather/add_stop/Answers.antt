@@ -1,4 +1,4 @@
-use Rattle.std.proofs.Common.{◌≡◌, ◌+◌, ◌<◌, ◌⊎◌, ◌↔◌, ℕ, List, length, sym, subst, ◌∙◌, inl, inr, arith}
+use Rattle.std.proofs.Common.{List, length, sym, subst, ◌∙◌, inl, inr, arith}
 use Rattle.walk_hierarchy.specs.declared.settled.Settled.{Settled}
 use Rattle.walk_hierarchy.specs.Hierarchy.{AreSettled}
 use Rattle.bucket_walks.specs.Gathered.{sums, AreMarked}

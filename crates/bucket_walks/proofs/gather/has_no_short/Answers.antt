@@ -1,4 +1,4 @@
-use Rattle.std.proofs.Common.{◌≡◌, ◌<◌, ◌≤◌, ◌⊎◌, List, length, take, slice_index_or, get_or, subst, sym, refl, inl, inr, false, IsTrue, arith}
+use Rattle.std.proofs.Common.{List, slice_index_or, subst, sym, refl, inl, inr, false, IsTrue, arith}
 use Rattle.std.proofs.lemmas.List.{take_all}
 use Rattle.bucket_walks.specs.declared.bypasses.Bypass.{Bypass}
 use Rattle.bucket_walks.specs.Gathered.{IsShortBy, HasNoShort}

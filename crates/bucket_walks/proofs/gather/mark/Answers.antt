@@ -1,5 +1,4 @@
-use Rattle.std.proofs.Common.{◌<◌, ◌≤◌, ◌≡◌, List, length, take, slice_index_or, subst, arith}
-use Rattle.std.proofs.lemmas.List.{take_all}
+use Rattle.std.proofs.Common.{slice_index_or, arith}
 use Rattle.walk_hierarchy.specs.declared.settled.Settled.{Settled}
 use Rattle.bucket_walks.proofs.ListLemmas.{read_is}
 use Rattle.bucket_walks.proofs.MarkLemmas.{marked_more}

@@ -1,4 +1,4 @@
-use Rattle.std.proofs.Common.{◌≡◌, length, take}
+use Rattle.std.proofs.Common.{take}
 use Rattle.bucket_walks.specs.Gathered.{AreMarked}
 use Rattle.bucket_walks.proofs.gather.mark.Given as goal
 

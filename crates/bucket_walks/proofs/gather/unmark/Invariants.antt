@@ -1,4 +1,4 @@
-use Rattle.std.proofs.Common.{◌≡◌, ◌≢◌, ◌<◌, ◌≤◌, ◌⊎◌, ℕ, Option, Some, None, length, take, get_or}
+use Rattle.std.proofs.Common.{◌≡◌, ℕ, Some, None, take, get_or}
 use Rattle.std.specs.Prelude.{Contains}
 use Rattle.walk_hierarchy.specs.declared.settled.Settled.{Settled}
 use Rattle.bucket_walks.proofs.gather.unmark.Given as goal

@@ -1,4 +1,4 @@
-use Rattle.std.proofs.Common.{◌≡◌, ℕ, ◌<◌, Option, None, length, get_or}
+use Rattle.std.proofs.Common.{◌≡◌, ℕ, ◌<◌, None, length, get_or}
 use Rattle.bucket_walks.proofs.scan.clear.Given as goal
 
 abbrev pub invariant-loop-stop : goal.invariant-loop-stop

@@ -1,6 +1,5 @@
-use Rattle.std.proofs.Common.{◌<◌, ◌≤◌, List, length, take, slice_index_or, subst, arith}
+use Rattle.std.proofs.Common.{List, take, slice_index_or, subst, arith}
 use Rattle.std.proofs.lemmas.List.{take_all}
-use Rattle.walk_laws.specs.Sums.{longest}
 use Rattle.bucket_walks.specs.declared.bucket.Bucket.{Bucket}
 use Rattle.bucket_walks.specs.Scan.{Lowers, IsBy}
 use Rattle.bucket_walks.proofs.ListLemmas.{none_taken, read_is}

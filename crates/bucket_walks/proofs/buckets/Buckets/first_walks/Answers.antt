@@ -1,8 +1,8 @@
-use Rattle.std.proofs.Common.{◌≡◌, ◌∙◌, ◌+◌, ◌<◌, ◌≤◌, ℕ, List, length, sym, ap, subst, arith}
+use Rattle.std.proofs.Common.{◌≡◌, ◌∙◌, ◌+◌, ℕ, List, length, sym, ap, subst}
 use Rattle.walk_hierarchy.specs.Hierarchy.{Parts, IsUpSum, AreSettled}
 use Rattle.bucket_walks.specs.declared.bucket.Bucket.{Bucket}
 use Rattle.bucket_walks.specs.declared.bypasses.Side.TheVariants.{From}
-use Rattle.bucket_walks.specs.Buckets.{Parts as BucketParts, HoldsFirst}
+use Rattle.bucket_walks.specs.Buckets.{Parts as BucketParts}
 use Rattle.bucket_walks.specs.Scan.{Lowers, IsOver}
 use Rattle.bucket_walks.proofs.KeptLemmas.{settled_next, settled_few}
 use Rattle.bucket_walks.proofs.ScanLemmas.{first_holds}

@@ -1,8 +1,7 @@
-use Rattle.std.proofs.Common.{◌≡◌, ◌∙◌, List, Result, Ok, Err, length, refl, sym, ap, subst}
+use Rattle.std.proofs.Common.{◌≡◌, List, Result, Ok, Err, length, sym, subst}
 use Rattle.std.specs.Prelude.{All, IfOk}
 use Rattle.move_model.specs.declared.network.Stop.{Stop}
 use Rattle.walk_hierarchy.specs.Hierarchy.{Parts, IsNode}
-use Rattle.bucket_walks.specs.declared.bucket.Bucket.{Bucket}
 use Rattle.bucket_walks.specs.declared.bypasses.Side.TheVariants.{To, From}
 use Rattle.bucket_walks.specs.Buckets.{Parts as BucketParts, AreBucketsOf}
 use Rattle.bucket_walks.specs.Gathered.{AreEntries}

@@ -1,5 +1,5 @@
 use Rattle.std.proofs.Common.{◌≡◌, ◌∙◌, ◌+◌, ℕ, List, map, sym, ap, subst}
-use Rattle.std.specs.List.Sorted.{IsNonDecreasing, IsPermutation}
+use Rattle.std.specs.List.Sorted.{IsNonDecreasing}
 use Rattle.bucket_walks.specs.declared.bypasses.Bypass.{Bypass}
 use Rattle.bucket_walks.specs.Starts.{AreStarts}
 use Rattle.bucket_walks.specs.Gathered.{bypass_of, arcs_of, heads_of}

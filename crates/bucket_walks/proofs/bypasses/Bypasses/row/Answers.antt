@@ -1,4 +1,4 @@
-use Rattle.std.proofs.Common.{◌≡◌, ◌+◌, ◌<◌, ℕ, ap, ◌∙◌}
+use Rattle.std.proofs.Common.{◌≡◌, ℕ, ap}
 use Rattle.move_model.specs.declared.network.NodeNo.{NodeNo}
 use Rattle.bucket_walks.specs.declared.bypasses.Bypass.{Bypass}
 use Rattle.bucket_walks.specs.Starts.{row_at}
