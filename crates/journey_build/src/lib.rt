@@ -7,8 +7,6 @@
 mod calls;
 mod leg;
 mod seconds;
-#[cfg(test)]
-mod tests;
 mod whole;
 
 pub use whole::build;
