@@ -7,6 +7,8 @@
 mod calls;
 mod leg;
 mod seconds;
+#[cfg(test)]
+mod tests;
 mod whole;
 
 pub use whole::build;
