@@ -3,8 +3,7 @@ use Rattle.std.proofs.Common.{◌≡◌, ◌≢◌, ◌∙◌, ◌+◌, ◌-◌,
 use Rattle.std.specs.Prelude.{◌==◌, filter, All, Contains, slice_index}
 use Rattle.std.proofs.lemmas.Bool.{cases_lt}
 use Rattle.std.proofs.lemmas.Bool.Decides.{nat_tests}
-use Rattle.std.proofs.lemmas.List.Elements.{All-contains, All-get_or, All-weaker}
-use Rattle.std.proofs.lemmas.List.{get_or_past}
+use Rattle.std.proofs.lemmas.List.Elements.{All-contains, All-get_or, All-map, All-weaker}
 use Rattle.move_model.specs.declared.network.NodeNo.{NodeNo}
 use Rattle.walk_laws.specs.Sums.{longest}
 use Rattle.walk_hierarchy.specs.declared.arcs.UpDown.{UpDown}
@@ -13,10 +12,12 @@ use Rattle.walk_hierarchy.specs.declared.rows.Side.{Side}
 use Rattle.walk_hierarchy.specs.declared.rows.Side.TheVariants.{Out, Into}
 use Rattle.walk_hierarchy.specs.declared.rows.Rows.{Rows}
 use Rattle.walk_hierarchy.specs.Rows.{vertex_of, half_of, halves, IsRows}
-use Rattle.walk_hierarchy.specs.Hierarchy.{Parts, HasArc, IsArcUp, IsArcDown, IsHierarchy}
-use Rattle.walk_hierarchy.specs.Stored.{IsStored}
+use Rattle.walk_hierarchy.specs.Hierarchy.{Parts, IsNode, HasArc, IsArcUp, IsArcDown, IsHierarchy}
+use Rattle.walk_hierarchy.specs.Stored.{AreAscents, AreDescents}
+use Rattle.walk_hierarchy.specs.Places.{IsAt, place_of, place_arc, placed, HasEnds, AreNames, IsPlaced, IsRenumbered}
 use Rattle.walk_hierarchy.specs.Search.{row_of, HasHalf, Climbs}
 use Rattle.walk_hierarchy.specs.Meeting.{IsArcBack}
+use Rattle.walk_hierarchy.proofs.PlaceLaws.{place_same}
 
 contains_cons : {A : Type 0} (x : A) (xs : List A) (y : A) → Contains (x ∷ xs) y → (x ≡ y) ⊎ Contains xs y
 contains_cons x xs y (zero, within, is) = inl is
@@ -115,71 +116,171 @@ module _ (rows : Rows) (side : Side) (nodes : ℕ) (arcs : List UpDown) (is : Is
         omega (arith, rises.to, ap (λ (h : Half). h.to.0) arc.is);
   }
 
--- the rank of a vertex by its number
-abbrev pub rank_at : Parts → ℕ → ℕ
-rank_at h v = slice_index h.ranks (v - 1)
+-- the arcs with the places of their ends
 
-rank_low : (h : Parts) → IsHierarchy h → (v : ℕ) → rank_at h v ≤ 2000000
-rank_low h rules v = elim (cases_lt (v - 1) (length h.ranks)) [
-  | inl lt ↦ omega (arith, All-get_or (λ rank. rank < length h.ranks) h.ranks (v - 1) 0 lt rules.ranks.below, rules.nodes)
-  | inr past ↦ omega (arith, get_or_past h.ranks (v - 1) 0 past)
+contains_map : {A B : Type 0} (f : A → B) (xs : List A) (y : B) → Contains (map f xs) y → (x : A) × (Contains xs x × (f x ≡ y))
+contains_map f [] y has = absurd (omega (arith, has.1))
+contains_map f (x ∷ xs) y has = elim (contains_cons (f x) (map f xs) y has) [
+  | inl is ↦ (x, (contains_first x xs x refl, is))
+  | inr rest ↦
+      let found = contains_map f xs y rest in
+      (found.0, (contains_rest x xs found.0 found.1.0, found.1.1))
 ]
 
-module _ (h : Parts) (ascents descents : Rows) (s : IsStored h ascents descents) where
-  pub ascents_climb : Climbs ascents (length h.ranks + 1)
-  ascents_climb = climbs_from ascents Out (length h.ranks) h.up s.leaving (rank_at h) (rank_low h s.rules)
-      (All-weaker (IsArcUp h) (IsRising ascents Out (length h.ranks) h.up s.leaving (rank_at h)) (λ arc up. record { rises = up.rises; to = up.to.to_nodes; short = up.short }) h.up s.rules.up)
+map_contains : {A B : Type 0} (f : A → B) (xs : List A) (x : A) → Contains xs x → Contains (map f xs) (f x)
+map_contains f [] x has = absurd (omega (arith, has.1))
+map_contains f (y ∷ xs) x has = elim (contains_cons y xs x has) [
+  | inl is ↦ contains_first (f y) (map f xs) (f x) (ap f is)
+  | inr rest ↦ contains_rest (f y) (map f xs) (f x) (map_contains f xs x rest)
+]
 
-  pub descents_climb : Climbs descents (length h.ranks + 1)
-  descents_climb = climbs_from descents Into (length h.ranks) h.down s.ending (rank_at h) (rank_low h s.rules)
-      (All-weaker (IsArcDown h) (IsRising descents Into (length h.ranks) h.down s.ending (rank_at h)) (λ arc down. record { rises = down.falls; to = down.from.to_nodes; short = down.short }) h.down s.rules.down)
+pub vertex_at : (h : Parts) (v : NodeNo) → IsNode h v → IsAt h.ranks v.0
+vertex_at h v is = record { from_one = is.from_one; to_nodes = is.to_nodes }
 
-  pub arc_up_of : (p q l : ℕ) → HasHalf ascents p q l → HasArc h.up p q l
-  arc_up_of p q l has =
-      let half = arc_of_half ascents Out (length h.ranks) h.up s.leaving p q l has in (
-        half.arc.middle,
-        subst (λ (arc : UpDown). Contains h.up arc)
-            (λ i. record { from = node_at (half.at i); to = (half.is i).to; seconds = (half.is i).seconds; middle = half.arc.middle }) half.stands,
-      )
-    where
-      node_at : ℕ → NodeNo
-      node_at v = record { 0 = v }
+pub node_at : (h : Parts) (v : NodeNo) → IsAt h.ranks v.0 → IsNode h v
+node_at h v is = record { from_one = is.from_one; to_nodes = is.to_nodes }
 
-  pub half_up_of : (p q l : ℕ) → HasArc h.up p q l → HasHalf ascents p q l
-  half_up_of p q l has =
-      let arc : UpDown = record { from = record { 0 = p }; to = record { 0 = q }; seconds = l; middle = has.0 } in
-      half_there ascents Out (length h.ranks) h.up s.leaving arc has.1 (All-contains (IsArcUp h) h.up arc s.rules.up has.1).from.to_nodes
+pub place_low : (h : Parts) → IsHierarchy h → (v : ℕ) → IsAt h.ranks v → place_of h.ranks v ≤ length h.ranks
+place_low h rules v at =
+    let low : v - 1 < length h.ranks = omega (arith, at.from_one, at.to_nodes) in
+    omega (arith, All-get_or (λ rank. rank < length h.ranks) h.ranks (v - 1) 0 low rules.ranks.below)
 
-  pub arc_down_of : (p q l : ℕ) → HasHalf descents p q l → IsArcBack h.down p q l
-  arc_down_of p q l has =
-      let half = arc_of_half descents Into (length h.ranks) h.down s.ending p q l has in (
-        half.arc.middle,
-        subst (λ (arc : UpDown). Contains h.down arc)
-            (λ i. record { from = (half.is i).to; to = node_at (half.at i); seconds = (half.is i).seconds; middle = half.arc.middle }) half.stands,
-      )
-    where
-      node_at : ℕ → NodeNo
-      node_at v = record { 0 = v }
+-- a place up to the greatest number of vertices, and this number for a greater one
+abbrev pub up_to : ℕ → ℕ
+up_to p = p - (p - 2000000)
 
-  pub half_down_of : (p q l : ℕ) → IsArcBack h.down p q l → HasHalf descents p q l
-  half_down_of p q l has =
-      let arc : UpDown = record { from = record { 0 = q }; to = record { 0 = p }; seconds = l; middle = has.0 } in
-      half_there descents Into (length h.ranks) h.down s.ending arc has.1 (All-contains (IsArcDown h) h.down arc s.rules.down has.1).to.to_nodes
+pub ends_up : (h : Parts) → IsHierarchy h → All (HasEnds h.ranks) h.up
+ends_up h rules =
+    All-weaker (IsArcUp h) (HasEnds h.ranks) (λ arc up. record { from = vertex_at h arc.from up.from; to = vertex_at h arc.to up.to }) h.up rules.up
+
+pub ends_down : (h : Parts) → IsHierarchy h → All (HasEnds h.ranks) h.down
+ends_down h rules =
+    All-weaker (IsArcDown h) (HasEnds h.ranks) (λ arc down. record { from = vertex_at h arc.from down.from; to = vertex_at h arc.to down.to }) h.down rules.down
+
+pub low_up : (h : Parts) → IsHierarchy h → All (λ arc. vertex_of Out arc ≤ length h.ranks) (placed h.ranks h.up)
+low_up h rules =
+    All-map (λ arc. vertex_of Out arc ≤ length h.ranks) (place_arc h.ranks) h.up
+    (All-weaker (HasEnds h.ranks) (λ arc. vertex_of Out (place_arc h.ranks arc) ≤ length h.ranks) (λ arc ends. place_low h rules arc.from.0 ends.from) h.up (ends_up h rules))
+
+pub low_down : (h : Parts) → IsHierarchy h → All (λ arc. vertex_of Into arc ≤ length h.ranks) (placed h.ranks h.down)
+low_down h rules =
+    All-map (λ arc. vertex_of Into arc ≤ length h.ranks) (place_arc h.ranks) h.down
+    (All-weaker (HasEnds h.ranks) (λ arc. vertex_of Into (place_arc h.ranks arc) ≤ length h.ranks) (λ arc ends. place_low h rules arc.to.0 ends.to) h.down (ends_down h rules))
+
+module _ (h : Parts) (rules : IsHierarchy h) (rows : Rows) where
+  module _ (s : AreAscents h rows) where
+    pub ascents_climb : Climbs rows (length h.ranks + 1)
+    ascents_climb =
+        climbs_from rows Out (length h.ranks) (placed h.ranks h.up) s up_to (λ v. omega arith)
+        (All-map (IsRising rows Out (length h.ranks) (placed h.ranks h.up) s up_to) (place_arc h.ranks) h.up
+        (All-weaker (IsArcUp h) (λ arc. IsRising rows Out (length h.ranks) (placed h.ranks h.up) s up_to (place_arc h.ranks arc))
+        (λ arc up.
+        let low = place_low h rules arc.to.0 (vertex_at h arc.to up.to) in
+        record { rises = omega (arith, up.rises, low, rules.nodes); to = low; short = up.short }) h.up rules.up))
+
+    pub arc_up_of : (p q l : ℕ) → HasHalf rows p q l → IsPlaced h.ranks (HasArc h.up) p q l
+    arc_up_of p q l has =
+        let half = arc_of_half rows Out (length h.ranks) (placed h.ranks h.up) s p q l has in
+        let arc = contains_map (place_arc h.ranks) h.up half.arc half.stands in
+        let seconds : arc.0.seconds ≡ l = ap (λ (a : UpDown). a.seconds) arc.1.1 ∙ ap (λ (f : Half). f.seconds) half.is in
+        record {
+          from = arc.0.from.0;
+          to = arc.0.to.0;
+          leads = (
+            arc.0.middle,
+            subst (λ (m : ℕ). Contains h.up (record { from = arc.0.from; to = arc.0.to; seconds = m; middle = arc.0.middle })) seconds arc.1.0,
+          );
+          begins = ap (λ (a : UpDown). a.from.0) arc.1.1 ∙ half.at;
+          ends = ap (λ (a : UpDown). a.to.0) arc.1.1 ∙ ap (λ (f : Half). f.to.0) half.is;
+        }
+
+    pub half_up_of : (v w l : ℕ) → HasArc h.up v w l → HasHalf rows (place_of h.ranks v) (place_of h.ranks w) l
+    half_up_of v w l has =
+        let arc : UpDown = record { from = record { 0 = v }; to = record { 0 = w }; seconds = l; middle = has.0 } in
+        half_there rows Out (length h.ranks) (placed h.ranks h.up) s (place_arc h.ranks arc) (map_contains (place_arc h.ranks) h.up arc has.1)
+        (place_low h rules v (All-contains (HasEnds h.ranks) h.up arc (ends_up h rules) has.1).from)
+
+    pub up_renumbered : IsRenumbered h.ranks (HasHalf rows) (HasArc h.up)
+    up_renumbered = record {
+      there = arc_up_of;
+      back = half_up_of;
+      from = λ v w l has.
+          (All-contains (HasEnds h.ranks) h.up (record { from = record { 0 = v }; to = record { 0 = w }; seconds = l; middle = has.0 }) (ends_up h rules) has.1).from;
+      to = λ v w l has.
+          (All-contains (HasEnds h.ranks) h.up (record { from = record { 0 = v }; to = record { 0 = w }; seconds = l; middle = has.0 }) (ends_up h rules) has.1).to;
+    }
+
+  module _ (s : AreDescents h rows) where
+    pub descents_climb : Climbs rows (length h.ranks + 1)
+    descents_climb =
+        climbs_from rows Into (length h.ranks) (placed h.ranks h.down) s up_to (λ v. omega arith)
+        (All-map (IsRising rows Into (length h.ranks) (placed h.ranks h.down) s up_to) (place_arc h.ranks) h.down
+        (All-weaker (IsArcDown h) (λ arc. IsRising rows Into (length h.ranks) (placed h.ranks h.down) s up_to (place_arc h.ranks arc))
+        (λ arc down.
+        let low = place_low h rules arc.from.0 (vertex_at h arc.from down.from) in
+        record { rises = omega (arith, down.falls, low, rules.nodes); to = low; short = down.short }) h.down rules.down))
+
+    pub arc_down_of : (p q l : ℕ) → HasHalf rows p q l → IsPlaced h.ranks (IsArcBack h.down) p q l
+    arc_down_of p q l has =
+        let half = arc_of_half rows Into (length h.ranks) (placed h.ranks h.down) s p q l has in
+        let arc = contains_map (place_arc h.ranks) h.down half.arc half.stands in
+        let seconds : arc.0.seconds ≡ l = ap (λ (a : UpDown). a.seconds) arc.1.1 ∙ ap (λ (f : Half). f.seconds) half.is in
+        record {
+          from = arc.0.to.0;
+          to = arc.0.from.0;
+          leads = (
+            arc.0.middle,
+            subst (λ (m : ℕ). Contains h.down (record { from = arc.0.from; to = arc.0.to; seconds = m; middle = arc.0.middle })) seconds arc.1.0,
+          );
+          begins = ap (λ (a : UpDown). a.to.0) arc.1.1 ∙ half.at;
+          ends = ap (λ (a : UpDown). a.from.0) arc.1.1 ∙ ap (λ (f : Half). f.to.0) half.is;
+        }
+
+    pub half_down_of : (v w l : ℕ) → IsArcBack h.down v w l → HasHalf rows (place_of h.ranks v) (place_of h.ranks w) l
+    half_down_of v w l has =
+        let arc : UpDown = record { from = record { 0 = w }; to = record { 0 = v }; seconds = l; middle = has.0 } in
+        half_there rows Into (length h.ranks) (placed h.ranks h.down) s (place_arc h.ranks arc) (map_contains (place_arc h.ranks) h.down arc has.1)
+        (place_low h rules v (All-contains (HasEnds h.ranks) h.down arc (ends_down h rules) has.1).to)
+
+    pub down_renumbered : IsRenumbered h.ranks (HasHalf rows) (IsArcBack h.down)
+    down_renumbered = record {
+      there = arc_down_of;
+      back = half_down_of;
+      from = λ v w l has.
+          (All-contains (HasEnds h.ranks) h.down (record { from = record { 0 = w }; to = record { 0 = v }; seconds = l; middle = has.0 }) (ends_down h rules) has.1).to;
+      to = λ v w l has.
+          (All-contains (HasEnds h.ranks) h.down (record { from = record { 0 = w }; to = record { 0 = v }; seconds = l; middle = has.0 }) (ends_down h rules) has.1).from;
+    }
 
   -- a half that was found, as the arc that it is
-  pub up_stands : (p : NodeNo) (half : Half) → p.0 ≤ length h.ranks → Contains (row_of ascents p.0) half
-      → Contains h.up (record { from = p; to = half.to; seconds = half.seconds; middle = half.middle })
-  up_stands p half low has =
-      let found = half_from Out p.0 h.up half (subst (λ (row : List Half). Contains row half) (s.leaving.each p.0 low).holds has) in
-      subst (λ (arc : UpDown). Contains h.up arc)
-      (λ i. record { from = record { 0 = found.at i }; to = (found.is i).to; seconds = (found.is i).seconds; middle = (found.is i).middle }) found.stands
+  module _ (names : List ℕ) (are : AreNames h.ranks names) (from to : NodeNo) (from_at : IsAt h.ranks from.0) (to_at : IsAt h.ranks to.0) (half : Half) where
+    pub up_stands : AreAscents h rows → Contains (row_of rows (place_of h.ranks from.0)) half → half.to.0 ≡ place_of h.ranks to.0
+        → Contains h.up (record { from = from; to = to; seconds = half.seconds; middle = half.middle })
+    up_stands s has leads =
+        let found = half_from Out (place_of h.ranks from.0) (placed h.ranks h.up) half
+        (subst (λ (row : List Half). Contains row half) (s.each (place_of h.ranks from.0) (place_low h rules from.0 from_at)).holds has) in
+        let arc = contains_map (place_arc h.ranks) h.up found.arc found.stands in
+        let ends = All-contains (HasEnds h.ranks) h.up arc.0 (ends_up h rules) arc.1.0 in
+        let begins_at : arc.0.from.0 ≡ from.0 = place_same h.ranks names are arc.0.from.0 from.0 ends.from from_at (ap (λ (a : UpDown). a.from.0) arc.1.1 ∙ found.at) in
+        let ends_at : arc.0.to.0 ≡ to.0 = place_same h.ranks names are arc.0.to.0 to.0 ends.to to_at (ap (λ (a : UpDown). a.to.0) arc.1.1 ∙ ap (λ (f : Half). f.to.0) found.is ∙ leads) in
+        let seconds : arc.0.seconds ≡ half.seconds = ap (λ (a : UpDown). a.seconds) arc.1.1 ∙ ap (λ (f : Half). f.seconds) found.is in
+        let middle : arc.0.middle ≡ half.middle = ap (λ (a : UpDown). a.middle) arc.1.1 ∙ ap (λ (f : Half). f.middle) found.is in
+        subst (λ (a : UpDown). Contains h.up a)
+        (λ i. record { from = record { 0 = begins_at i }; to = record { 0 = ends_at i }; seconds = seconds i; middle = middle i }) arc.1.0
 
-  pub down_stands : (q : NodeNo) (half : Half) → q.0 ≤ length h.ranks → Contains (row_of descents q.0) half
-      → Contains h.down (record { from = half.to; to = q; seconds = half.seconds; middle = half.middle })
-  down_stands q half low has =
-      let found = half_from Into q.0 h.down half (subst (λ (row : List Half). Contains row half) (s.ending.each q.0 low).holds has) in
-      subst (λ (arc : UpDown). Contains h.down arc)
-      (λ i. record { from = (found.is i).to; to = record { 0 = found.at i }; seconds = (found.is i).seconds; middle = (found.is i).middle }) found.stands
+    pub down_stands : AreDescents h rows → Contains (row_of rows (place_of h.ranks to.0)) half → half.to.0 ≡ place_of h.ranks from.0
+        → Contains h.down (record { from = from; to = to; seconds = half.seconds; middle = half.middle })
+    down_stands s has leads =
+        let found = half_from Into (place_of h.ranks to.0) (placed h.ranks h.down) half
+        (subst (λ (row : List Half). Contains row half) (s.each (place_of h.ranks to.0) (place_low h rules to.0 to_at)).holds has) in
+        let arc = contains_map (place_arc h.ranks) h.down found.arc found.stands in
+        let ends = All-contains (HasEnds h.ranks) h.down arc.0 (ends_down h rules) arc.1.0 in
+        let ends_at : arc.0.to.0 ≡ to.0 = place_same h.ranks names are arc.0.to.0 to.0 ends.to to_at (ap (λ (a : UpDown). a.to.0) arc.1.1 ∙ found.at) in
+        let begins_at : arc.0.from.0 ≡ from.0 = place_same h.ranks names are arc.0.from.0 from.0 ends.from from_at (ap (λ (a : UpDown). a.from.0) arc.1.1 ∙ ap (λ (f : Half). f.to.0) found.is ∙ leads) in
+        let seconds : arc.0.seconds ≡ half.seconds = ap (λ (a : UpDown). a.seconds) arc.1.1 ∙ ap (λ (f : Half). f.seconds) found.is in
+        let middle : arc.0.middle ≡ half.middle = ap (λ (a : UpDown). a.middle) arc.1.1 ∙ ap (λ (f : Half). f.middle) found.is in
+        subst (λ (a : UpDown). Contains h.down a)
+        (λ i. record { from = record { 0 = begins_at i }; to = record { 0 = ends_at i }; seconds = seconds i; middle = middle i }) arc.1.0
 
 -- the half that is looked for stands further on
 pub find_within : (row : List Half) (to : NodeNo) (i : ℕ) → (half : Half) × (Contains row half × (half.to ≡ to))

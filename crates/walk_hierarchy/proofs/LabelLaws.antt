@@ -12,6 +12,7 @@ use Rattle.walk_queue.specs.Keys.{key_at}
 use Rattle.walk_hierarchy.specs.declared.labels.Label.{Label}
 use Rattle.walk_hierarchy.specs.declared.settled.Settled.{Settled}
 use Rattle.walk_hierarchy.specs.Labels.{HasLabel, is_label, label_of, IsTouched, AreListed}
+use Rattle.walk_hierarchy.specs.Places.{settled_name}
 
 node_eq : (a b : NodeNo) → a.0 ≡ b.0 → a ≡ b
 node_eq a b e = ap (λ (k : ℕ). let v : NodeNo = record { 0 = k } in v) e
@@ -235,6 +236,10 @@ nodes_only marks touched room is = λ k d lt.
 -- the entries of the touched vertices
 abbrev pub entry_of : List Label → NodeNo → Settled
 entry_of marks v = record { node = v; seconds = (slice_index_or marks v.0 (record { seconds = 0; parent = record { 0 = 0 } })).seconds }
+
+-- and by their names
+abbrev pub name_of : List ℕ → List Label → NodeNo → Settled
+name_of names marks v = settled_name names (entry_of marks v)
 
 pub entries_listed : (marks : List Label) (touched : List NodeNo) (room : ℕ) → IsTouched marks touched room → AreListed (map label_of marks) (map (entry_of marks) touched)
 entries_listed marks touched room is =

@@ -1,5 +1,6 @@
 pub mod RowLemmas
 pub mod SearchLaws
+pub mod PlaceLaws
 pub mod HalfLaws
 pub mod LabelLaws
 pub mod MeetLaws

@@ -14,24 +14,8 @@ use Rattle.walk_hierarchy.specs.Hierarchy.{Parts, IsNode, HasArc, IsDownSum, IsU
 use Rattle.walk_hierarchy.specs.Labels.{HasLabel, HasWithin, IsLeastFrom, AreSums, HasLeastLabel, AreListed}
 use Rattle.walk_hierarchy.specs.Search.{HasHalf, Climbs, Waits, IsSearch, IsGoing, IsOnward}
 use Rattle.walk_hierarchy.specs.Meeting.{IsArcBack, IsBetween, IsBest, HasBest, bound_of, IsMeeting, IsHeld, IsBoth, IsBetter}
-use Rattle.walk_laws.proofs.SumLemmas.{IsSum-join, IsSum-one, IsSum-reverse}
+use Rattle.walk_laws.proofs.SumLemmas.{IsSum-reverse}
 use Rattle.walk_hierarchy.proofs.SearchLaws.{Some-same, entry_other, few_seconds, going_taken, search_lower, search_stopped, labelled_near}
-
--- the same labels, for arcs that are told otherwise
-pub least_along : (one two : ℕ → ℕ → ℕ → Type 0) (from : ℕ) (labels : List (Option Label))
-    → ((p q l : ℕ) → one p q l → two p q l) → ((p q l : ℕ) → two p q l → one p q l) → IsLeastFrom one from labels → IsLeastFrom two from labels
-least_along one two from labels there back is = record {
-  least = λ v x label. record {
-    attained = IsSum-join (λ p q l arc. IsSum-one (there p q l arc)) (is.least v x label).attained;
-    least = λ m sum. (is.least v x label).least m (IsSum-join (λ p q l arc. IsSum-one (back p q l arc)) sum);
-  };
-  all = λ v m sum. is.all v m (IsSum-join (λ p q l arc. IsSum-one (back p q l arc)) sum);
-  comes = λ v x label. elim (is.comes v x label) [
-    | inl first ↦ inl first
-    | inr via ↦
-        inr (record { y = via.y; k = via.k; before = via.before; leads = there x.parent.0 v via.k via.leads; within = via.within })
-  ];
-}
 
 -- the entries of least labels
 pub settled_from : (arc : ℕ → ℕ → ℕ → Type 0) (from : ℕ) (labels : List (Option Label)) (entries : List Settled)
@@ -64,43 +48,6 @@ pub settled_down : (h : Parts) (to : ℕ) (entries : List Settled) → AreSettle
 settled_down h to entries is =
     settled_along (IsSum (IsArcBack h.down) to) (λ v m. IsDownSum h v to m) entries
     (λ v m sum. IsSum-reverse (λ p q l arc. arc) sum) (λ v m sum. IsSum-reverse (λ p q l arc. arc) sum) is
-
--- the same sums, for arcs that are told otherwise
-pub sums_along : (one two : ℕ → ℕ → ℕ → Type 0) (from : ℕ) (labels : List (Option Label)) → ((p q l : ℕ) → one p q l → two p q l)
-    → AreSums one from labels → AreSums two from labels
-sums_along one two from labels there is = record {
-  sums = λ v x label. IsSum-join (λ p q l arc. IsSum-one (there p q l arc)) (is.sums v x label);
-  comes = λ v x label. elim (is.comes v x label) [
-    | inl first ↦ inl first
-    | inr via ↦
-        inr (record { y = via.y; k = via.k; before = via.before; leads = there x.parent.0 v via.k via.leads; within = via.within })
-  ];
-}
-
-between_along : (one two one' two' : ℕ → ℕ → ℕ → Type 0) (a b s : ℕ) → ((p q l : ℕ) → one p q l → one' p q l) → ((p q l : ℕ) → two p q l → two' p q l)
-    → IsBetween one two a b s → IsBetween one' two' a b s
-between_along one two one' two' a b s there back is = record {
-  top = is.top;
-  l = is.l;
-  k = is.k;
-  there = IsSum-join (λ p q l arc. IsSum-one (there p q l arc)) is.there;
-  back = IsSum-join (λ p q l arc. IsSum-one (back p q l arc)) is.back;
-  total = is.total;
-}
-
-pub best_along : (one two one' two' : ℕ → ℕ → ℕ → Type 0) (a b : ℕ) (up down : List (Option Label)) (best : Option Meeting)
-    → ((p q l : ℕ) → one p q l → one' p q l) → ((p q l : ℕ) → one' p q l → one p q l)
-    → ((p q l : ℕ) → two p q l → two' p q l) → ((p q l : ℕ) → two' p q l → two p q l)
-    → HasBest one two a b up down best → HasBest one' two' a b up down best
-best_along one two one' two' a b up down None there there_back back back_back is =
-    λ s between. is s (between_along one' two' one two a b s there_back back_back between)
-best_along one two one' two' a b up down (Some m) there there_back back back_back is = record {
-  meets = is.meets;
-  least = record {
-    attained = between_along one two one' two' a b m.seconds there back is.least.attained;
-    least = λ s between. is.least.least s (between_along one' two' one two a b s there_back back_back between);
-  };
-}
 
 -- the two searches by turns
 

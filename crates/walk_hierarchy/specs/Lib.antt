@@ -2,6 +2,7 @@ pub mod Hierarchy
 pub mod Working
 pub mod Rows
 pub mod Labels
+pub mod Places
 pub mod Stored
 pub mod Idle
 pub mod Search

@@ -1,11 +1,12 @@
 // Hierarchies.
 ghost use Rattle.std.specs.Prelude.{◌≡◌, ◌-◌, ◌<◌, ◌^◌, ℕ, length, Contains, IfOk};
 ghost use Rattle.move_model.specs.Network.{streets};
-ghost use Rattle.walk_hierarchy.specs.Hierarchy.{HasArc, IsHierarchy, IsOver};
-ghost use Rattle.walk_hierarchy.specs.declared.rows.Rows.{Rows};
-ghost use Rattle.walk_hierarchy.specs.Stored.{IsStored};
+ghost use Rattle.walk_hierarchy.specs.Hierarchy.{IsNode, HasArc, IsHierarchy, IsOver};
+ghost use Rattle.walk_hierarchy.specs.Places.{place_of, AreNames};
+ghost use Rattle.walk_hierarchy.specs.Stored.{AreAscents, AreDescents};
 
 use crate::arcs::{Ranks, UpDown, UpDowns};
+use crate::places::{names, place, placed};
 use crate::rows::{Rows, Side, find};
 use move_model::{Network, NoMemory, NodeNo};
 use std::alloc::Global;
@@ -17,9 +18,11 @@ pub struct Hierarchy {
     ranks: Ranks,
     up: UpDowns,
     down: UpDowns,
-    // The arcs up by the vertex where they begin, and the arcs down by the vertex where they end.
+    // The arcs up by where they begin, and the arcs down by where they end, both by places.
     ascents: Rows,
     descents: Rows,
+    // The vertices by place.
+    names: Vec<u32>,
 }
 
 impl Model for Hierarchy {
@@ -30,7 +33,7 @@ impl Model for Hierarchy {
 
     ghost view = { λ hierarchy. record { ranks = hierarchy.ranks; up = hierarchy.up; down = hierarchy.down } };
 
-    ghost invariant = { λ hierarchy. IsStored (record { ranks = hierarchy.ranks; up = hierarchy.up; down = hierarchy.down }) hierarchy.ascents hierarchy.descents };
+    ghost invariant = { λ hierarchy. IsStored (record { ranks = hierarchy.ranks; up = hierarchy.up; down = hierarchy.down }) hierarchy.ascents hierarchy.descents hierarchy.names.items };
 }
 
 impl Hierarchy {
@@ -47,14 +50,18 @@ impl Hierarchy {
         ensures { IfOk result (λ hierarchy. hierarchy ≡ record { ranks = ranks; up = up; down = down }) }
     {
         let nodes = ranks.len() as u32;
-        let ascents = Rows::new(alloc, nodes, up.as_slice(), Side::Out)?;
-        let descents = Rows::new(alloc, nodes, down.as_slice(), Side::Into)?;
+        let names = names(alloc, ranks.as_slice())?;
+        let placed_up = placed(alloc, ranks.as_slice(), up.as_slice())?;
+        let ascents = Rows::new(alloc, nodes, placed_up.as_slice(), Side::Out)?;
+        let placed_down = placed(alloc, ranks.as_slice(), down.as_slice())?;
+        let descents = Rows::new(alloc, nodes, placed_down.as_slice(), Side::Into)?;
         Ok(Hierarchy {
             ranks,
             up,
             down,
             ascents,
             descents,
+            names,
         })
     }
 
@@ -90,18 +97,35 @@ impl Hierarchy {
         self.down.as_slice()
     }
 
-    // The arcs up by the vertex where they begin.
+    // The arcs up by the place where they begin.
     pub(crate) fn ascents(&self) -> &Rows
-        ensures { (descents : Rows) × IsStored self.now result.now descents }
+        ensures rows { AreAscents self.now result.now }
+        ensures rules { IsHierarchy self.now }
     {
         &self.ascents
     }
 
-    // The arcs down by the vertex where they end.
+    // The arcs down by the place where they end.
     pub(crate) fn descents(&self) -> &Rows
-        ensures { (ascents : Rows) × IsStored self.now ascents result.now }
+        ensures rows { AreDescents self.now result.now }
+        ensures rules { IsHierarchy self.now }
     {
         &self.descents
+    }
+
+    // The vertices by place.
+    pub(crate) fn names(&self) -> &[u32]
+        ensures { AreNames self.now.ranks result.now }
+    {
+        self.names.as_slice()
+    }
+
+    // The place of a vertex.
+    pub(crate) fn place(&self, v: NodeNo) -> NodeNo
+        requires { IsNode self.now v }
+        ensures { result ≡ record { 0 = place_of self.now.ranks v.0 } }
+    {
+        place(self.ranks.as_slice(), v)
     }
 
     // The arc up between two vertices.
@@ -111,7 +135,7 @@ impl Hierarchy {
         ensures from { result.from ≡ from }
         ensures to { result.to ≡ to }
     {
-        let half = find(self.ascents.row(from), to);
+        let half = find(self.ascents.row(self.place(from)), self.place(to));
         UpDown {
             from,
             to,
@@ -127,7 +151,7 @@ impl Hierarchy {
         ensures from { result.from ≡ from }
         ensures to { result.to ≡ to }
     {
-        let half = find(self.descents.row(to), from);
+        let half = find(self.descents.row(self.place(to)), self.place(from));
         UpDown {
             from,
             to,

@@ -1,9 +1,11 @@
 // The labels of a search, one for each vertex that it came to.
-ghost use Rattle.std.specs.Prelude.{◌≡◌, ◌-◌, ◌<◌, ◌≤◌, ◌^◌, [], vec_capacity, All, ℕ, length, replicate, slice_set, IfOk, None, Some, Contains};
+ghost use Rattle.std.specs.Prelude.{◌≡◌, ◌-◌, ◌<◌, ◌≤◌, ◌^◌, List, [], vec_capacity, All, ℕ, length, map, replicate, slice_set, IfOk, None, Some, Contains};
 ghost use Rattle.std.specs.Bool.{OnTrue, OnFalse};
 ghost use Rattle.walk_queue.specs.Keys.{key_at};
 ghost use Rattle.walk_hierarchy.specs.Labels.{HasLabel, AreListed, lowers};
+ghost use Rattle.walk_hierarchy.specs.Places.{settled_name};
 ghost use Rattle.walk_hierarchy.specs.declared.labels.Label.{Label};
+ghost use Rattle.walk_hierarchy.specs.declared.settled.Settled.{Settled};
 
 use crate::settled::Settled;
 use move_model::NodeNo;
@@ -107,17 +109,18 @@ impl Labels {
         }
     }
 
-    // Lists the vertices that have labels, with their seconds.
-    pub(crate) fn list(&self, settled: &mut Vec<Settled>)
+    // Lists the places that have labels by their names, with their seconds.
+    pub(crate) fn list(&self, names: &[u32], settled: &mut Vec<Settled>)
         requires empty { settled.old.items ≡ [] }
         requires room { length self.now ≤ vec_capacity settled.old }
-        ensures listed { AreListed self.now settled.new.items }
+        requires named { length names.now ≡ length self.now }
+        ensures listed { (places : List Settled) × (AreListed self.now places × (settled.new.items ≡ map (settled_name names.now) places)) }
         ensures capacity { vec_capacity settled.new ≡ vec_capacity settled.old }
     {
-        for node in self.touched.as_slice() {
-            let seconds = self.marks[node.0 as usize].seconds;
+        for place in self.touched.as_slice() {
+            let seconds = self.marks[place.0 as usize].seconds;
             settled.push_reserved(Settled {
-                node: *node,
+                node: NodeNo(names[place.0 as usize]),
                 seconds,
             });
         }

@@ -17,6 +17,7 @@ mod arcs;
 mod hierarchy;
 mod labels;
 mod meeting;
+mod places;
 mod rows;
 mod search;
 mod settled;

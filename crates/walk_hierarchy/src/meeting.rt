@@ -1,5 +1,5 @@
 // The least sum of arcs up and arcs down between two vertices.
-ghost use Rattle.std.specs.Prelude.{◌≡◌, ◌+◌, ◌-◌, ◌<◌, ◌≤◌, ◌⊎◌, ◌↔◌, ℕ, List, Option, None, length, replicate, [], IsTrue};
+ghost use Rattle.std.specs.Prelude.{◌≡◌, ◌+◌, ◌-◌, ◌<◌, ◌≤◌, ◌⊎◌, ◌↔◌, ℕ, List, Option, None, length, replicate, [], IsTrue, IfSome};
 ghost use Rattle.std.specs.Option.{option_map};
 ghost use Rattle.move_model.specs.Streets.{Streets, HasDistance};
 ghost use Rattle.walk_laws.specs.Sums.{HasLeast};
@@ -10,6 +10,7 @@ ghost use Rattle.walk_hierarchy.specs.Labels.{HasLabel, AreSums};
 ghost use Rattle.walk_hierarchy.specs.Hierarchy.{IsNode, IsHierarchy, HasArc, IsUpDownSum, GivesDistances};
 ghost use Rattle.walk_hierarchy.specs.Search.{HasHalf, Climbs, work_left};
 ghost use Rattle.walk_hierarchy.specs.Meeting.{IsArcBack, HasBest, IsBoth, IsBetter, bound_of};
+ghost use Rattle.walk_hierarchy.specs.Places.{AreNames, by_vertex, meeting_name};
 
 use crate::hierarchy::Hierarchy;
 use crate::labels::Labels;
@@ -137,9 +138,24 @@ fn meet_between(
     best
 }
 
-// Searches up from one vertex and down to the other, and finds where they meet.
+// The meeting with the vertex of its place.
+fn with_name(meeting: Option<Meeting>, names: &[u32]) -> Option<Meeting>
+    requires { IfSome meeting (λ m. m.node.0 < length names.now) }
+    ensures { result ≡ option_map (meeting_name names.now) meeting }
+{
+    match meeting {
+        Some(meeting) => Some(Meeting {
+            seconds: meeting.seconds,
+            node: NodeNo(names[meeting.node.0 as usize]),
+        }),
+        None => None,
+    }
+}
+
+// Searches up from one vertex and down to the other, and finds where they meet. It leaves labels by place.
 pub(crate) fn meet(
     hierarchy: &Hierarchy,
+    names: &[u32],
     a: NodeNo,
     b: NodeNo,
     up: &mut Labels,
@@ -149,14 +165,16 @@ pub(crate) fn meet(
 ) -> Option<Meeting>
     requires a { IsNode hierarchy.now a }
     requires b { IsNode hierarchy.now b }
+    requires names { AreNames hierarchy.now.ranks names.now }
     requires places { length up_queue.old ≡ length hierarchy.now.ranks + 1 }
     requires up_none { up.old ≡ replicate (length up_queue.old) None }
     requires down_none { down.old ≡ replicate (length up_queue.old) None }
     requires none_waits { up_queue.old ≡ replicate (length up_queue.old) None }
     requires none_waits_back { down_queue.old ≡ replicate (length up_queue.old) None }
-    ensures up { AreSums (HasArc hierarchy.now.up) a.0 up.new }
-    ensures down { AreSums (IsArcBack hierarchy.now.down) b.0 down.new }
-    ensures best { HasBest (HasArc hierarchy.now.up) (IsArcBack hierarchy.now.down) a.0 b.0 up.new down.new result }
+    ensures up { AreSums (HasArc hierarchy.now.up) a.0 (by_vertex hierarchy.now.ranks names.now up.new) }
+    ensures down { AreSums (IsArcBack hierarchy.now.down) b.0 (by_vertex hierarchy.now.ranks names.now down.new) }
+    ensures best { HasBest (HasArc hierarchy.now.up) (IsArcBack hierarchy.now.down) a.0 b.0
+        (by_vertex hierarchy.now.ranks names.now up.new) (by_vertex hierarchy.now.ranks names.now down.new) result }
     ensures up_places { length up.new ≡ length up_queue.old }
     ensures down_places { length down.new ≡ length up_queue.old }
     ensures up_queue { up_queue.new ≡ up_queue.old }
@@ -165,7 +183,12 @@ pub(crate) fn meet(
 {
     let ascents = hierarchy.ascents();
     let descents = hierarchy.descents();
-    meet_between(ascents, descents, a, b, up, up_queue, down, down_queue)
+    let from = hierarchy.place(a);
+    let to = hierarchy.place(b);
+    let best = meet_between(
+        ascents, descents, from, to, up, up_queue, down, down_queue,
+    );
+    with_name(best, names)
 }
 
 fn seconds_of(meeting: Option<Meeting>) -> Option<u64>
@@ -197,6 +220,7 @@ pub fn distance<L: Ledger>(
     searches.tick();
     let meeting = meet(
         hierarchy,
+        hierarchy.names(),
         a,
         b,
         &mut work.up,

@@ -5,11 +5,12 @@ ghost use Rattle.walk_hierarchy.specs.declared.labels.Label.{Label};
 ghost use Rattle.walk_hierarchy.specs.Labels.{HasLabel, AreSums, HasLeastLabel};
 ghost use Rattle.walk_hierarchy.specs.Hierarchy.{IsNode, HasArc, IsHierarchy, IsOver, IsUpDownSum, GivesDistances, IsWayOver, IsShortestWalk};
 ghost use Rattle.walk_hierarchy.specs.Meeting.{IsArcBack, HasBest};
+ghost use Rattle.walk_hierarchy.specs.Places.{AreNames, by_vertex};
 ghost use Rattle.walk_hierarchy.specs.Unfolding.{IsArcOf, IsStack, IsUnfolding};
 
 use crate::arcs::UpDown;
 use crate::hierarchy::Hierarchy;
-use crate::labels::Labels;
+use crate::labels::{Label, Labels};
 use crate::meeting::{Meeting, meet};
 use crate::work::Work;
 use move_model::{NoMemory, NodeNo, Walk};
@@ -56,24 +57,39 @@ fn unfold(hierarchy: &Hierarchy, stack: &mut Vec<UpDown>, walk: &mut Walk) -> Re
     Ok(())
 }
 
+// The label of a vertex that has one, with the vertex from which it came.
+fn label_at(hierarchy: &Hierarchy, names: &[u32], labels: &Labels, at: NodeNo) -> Label
+    requires names { AreNames hierarchy.now.ranks names.now }
+    requires label { (x : Label) × (HasLabel (by_vertex hierarchy.now.ranks names.now labels.now) at.0 x × (1 ≤ x.parent.0)) }
+    ensures { HasLabel (by_vertex hierarchy.now.ranks names.now labels.now) at.0 result }
+{
+    let label = labels.label(hierarchy.place(at));
+    Label {
+        seconds: label.seconds,
+        parent: NodeNo(names[label.parent.0 as usize]),
+    }
+}
+
 // Stacks the arcs up that lead to a vertex, the first of them last.
 fn climb(
     hierarchy: &Hierarchy,
     from: NodeNo,
     top: NodeNo,
+    names: &[u32],
     labels: &Labels,
     stack: &mut Vec<UpDown>,
 ) -> Result<(), NoMemory>
     requires rules { IsHierarchy hierarchy.now }
-    requires labels { AreSums (HasArc hierarchy.now.up) from.0 labels.now }
-    requires top { HasLeastLabel (HasArc hierarchy.now.up) from.0 labels.now top.0 }
+    requires names { AreNames hierarchy.now.ranks names.now }
+    requires labels { AreSums (HasArc hierarchy.now.up) from.0 (by_vertex hierarchy.now.ranks names.now labels.now) }
+    requires top { HasLeastLabel (HasArc hierarchy.now.up) from.0 (by_vertex hierarchy.now.ranks names.now labels.now) top.0 }
     requires empty { stack.old.items ≡ [] }
     ensures arcs { OnOk result (All (IsArcOf hierarchy.now) stack.new.items) }
-    ensures stacked { OnOk result ((x : Label) → HasLabel labels.now top.0 x → IsStack stack.new.items from top x.seconds) }
+    ensures stacked { OnOk result ((x : Label) → HasLabel (by_vertex hierarchy.now.ranks names.now labels.now) top.0 x → IsStack stack.new.items from top x.seconds) }
 {
     let mut at = top;
     'back: while at.0 != from.0 {
-        let parent = labels.label(at).parent;
+        let parent = label_at(hierarchy, names, labels, at).parent;
         stack.push(hierarchy.arc_up(parent, at))?;
         at = parent;
     }
@@ -85,20 +101,22 @@ fn fall(
     hierarchy: &Hierarchy,
     top: NodeNo,
     to: NodeNo,
+    names: &[u32],
     labels: &Labels,
     stack: &mut Vec<UpDown>,
     walk: &mut Walk,
 ) -> Result<(), NoMemory>
     requires rules { IsHierarchy hierarchy.now }
-    requires labels { AreSums (IsArcBack hierarchy.now.down) to.0 labels.now }
-    requires top { HasLeastLabel (IsArcBack hierarchy.now.down) to.0 labels.now top.0 }
+    requires names { AreNames hierarchy.now.ranks names.now }
+    requires labels { AreSums (IsArcBack hierarchy.now.down) to.0 (by_vertex hierarchy.now.ranks names.now labels.now) }
+    requires top { HasLeastLabel (IsArcBack hierarchy.now.down) to.0 (by_vertex hierarchy.now.ranks names.now labels.now) top.0 }
     requires empty { stack.old.items ≡ [] }
-    ensures walks { OnOk result ((graph : Streets) (a : NodeNo) (m : ℕ) (x : Label) → IsOver graph hierarchy.now → HasLabel labels.now top.0 x
+    ensures walks { OnOk result ((graph : Streets) (a : NodeNo) (m : ℕ) (x : Label) → IsOver graph hierarchy.now → HasLabel (by_vertex hierarchy.now.ranks names.now labels.now) top.0 x
         → IsUnfolding graph a top m [] walk.old → IsUnfolding graph a to (m + x.seconds) [] walk.new) }
 {
     let mut at = top;
     'on: while at.0 != to.0 {
-        let parent = labels.label(at).parent;
+        let parent = label_at(hierarchy, names, labels, at).parent;
         stack.push(hierarchy.arc_down(at, parent))?;
         unfold(hierarchy, stack, walk)?;
         at = parent;
@@ -113,24 +131,26 @@ fn walk_by(
     a: NodeNo,
     b: NodeNo,
     top: NodeNo,
+    names: &[u32],
     up: &Labels,
     down: &Labels,
 ) -> Result<Walk, NoMemory>
     requires rules { IsHierarchy hierarchy.now }
+    requires names { AreNames hierarchy.now.ranks names.now }
     requires a { IsNode hierarchy.now a }
-    requires up { AreSums (HasArc hierarchy.now.up) a.0 up.now }
-    requires down { AreSums (IsArcBack hierarchy.now.down) b.0 down.now }
-    requires there { HasLeastLabel (HasArc hierarchy.now.up) a.0 up.now top.0 }
-    requires back { HasLeastLabel (IsArcBack hierarchy.now.down) b.0 down.now top.0 }
-    ensures { IfOk result (λ walk. (graph : Streets) (x y : Label) → IsOver graph hierarchy.now → HasLabel up.now top.0 x → HasLabel down.now top.0 y
+    requires up { AreSums (HasArc hierarchy.now.up) a.0 (by_vertex hierarchy.now.ranks names.now up.now) }
+    requires down { AreSums (IsArcBack hierarchy.now.down) b.0 (by_vertex hierarchy.now.ranks names.now down.now) }
+    requires there { HasLeastLabel (HasArc hierarchy.now.up) a.0 (by_vertex hierarchy.now.ranks names.now up.now) top.0 }
+    requires back { HasLeastLabel (IsArcBack hierarchy.now.down) b.0 (by_vertex hierarchy.now.ranks names.now down.now) top.0 }
+    ensures { IfOk result (λ walk. (graph : Streets) (x y : Label) → IsOver graph hierarchy.now → HasLabel (by_vertex hierarchy.now.ranks names.now up.now) top.0 x → HasLabel (by_vertex hierarchy.now.ranks names.now down.now) top.0 y
         → IsUnfolding graph a b (x.seconds + y.seconds) [] walk) }
 {
     let mut walk = Walk::new(alloc);
     walk.push(a)?;
     let mut stack = Vec::new(alloc);
-    climb(hierarchy, a, top, up, &mut stack)?;
+    climb(hierarchy, a, top, names, up, &mut stack)?;
     unfold(hierarchy, &mut stack, &mut walk)?;
-    fall(hierarchy, top, b, down, &mut stack, &mut walk)?;
+    fall(hierarchy, top, b, names, down, &mut stack, &mut walk)?;
     Ok(walk)
 }
 
@@ -141,15 +161,17 @@ fn walk_of(
     a: NodeNo,
     b: NodeNo,
     meeting: Option<Meeting>,
+    names: &[u32],
     up: &Labels,
     down: &Labels,
 ) -> Result<Option<Walk>, NoMemory>
     requires rules { IsHierarchy hierarchy.now }
+    requires names { AreNames hierarchy.now.ranks names.now }
     requires a { IsNode hierarchy.now a }
     requires b { IsNode hierarchy.now b }
-    requires up { AreSums (HasArc hierarchy.now.up) a.0 up.now }
-    requires down { AreSums (IsArcBack hierarchy.now.down) b.0 down.now }
-    requires best { HasBest (HasArc hierarchy.now.up) (IsArcBack hierarchy.now.down) a.0 b.0 up.now down.now meeting }
+    requires up { AreSums (HasArc hierarchy.now.up) a.0 (by_vertex hierarchy.now.ranks names.now up.now) }
+    requires down { AreSums (IsArcBack hierarchy.now.down) b.0 (by_vertex hierarchy.now.ranks names.now down.now) }
+    requires best { HasBest (HasArc hierarchy.now.up) (IsArcBack hierarchy.now.down) a.0 b.0 (by_vertex hierarchy.now.ranks names.now up.now) (by_vertex hierarchy.now.ranks names.now down.now) meeting }
     ensures none { IfOk result (λ walk. IsNone walk ↔ ((m : ℕ) → IsUpDownSum hierarchy.now a b m → ⊥)) }
     ensures walks { IfOk result (λ found. IfSome found (λ walk. (graph : Streets) → IsOver graph hierarchy.now → IsWayOver graph hierarchy.now a b walk)) }
     ensures shortest { IfOk result (λ found. IfSome found (λ walk. (graph : Streets) → IsOver graph hierarchy.now → GivesDistances graph hierarchy.now → IsShortestWalk graph a b walk)) }
@@ -157,7 +179,7 @@ fn walk_of(
     let Some(meeting) = meeting else {
         return Ok(None);
     };
-    let walk = walk_by(alloc, hierarchy, a, b, meeting.node, up, down)?;
+    let walk = walk_by(alloc, hierarchy, a, b, meeting.node, names, up, down)?;
     Ok(Some(walk))
 }
 
@@ -181,8 +203,10 @@ pub fn path<L: Ledger>(
     ensures ticks { searches.new ≡ searches.old + 1 }
 {
     searches.tick();
+    let names = hierarchy.names();
     let meeting = meet(
         hierarchy,
+        names,
         a,
         b,
         &mut work.up,
@@ -190,7 +214,7 @@ pub fn path<L: Ledger>(
         &mut work.down,
         &mut work.down_queue,
     );
-    let found = walk_of(alloc, hierarchy, a, b, meeting, &work.up, &work.down);
+    let found = walk_of(alloc, hierarchy, a, b, meeting, names, &work.up, &work.down);
     work.up.clear();
     work.down.clear();
     work.settled.clear();

@@ -25,8 +25,13 @@ pub fn search_up<L: Ledger>(
 {
     searches.tick();
     work.settled.clear();
-    search(hierarchy.ascents(), from, &mut work.up, &mut work.up_queue);
-    work.up.list(&mut work.settled);
+    search(
+        hierarchy.ascents(),
+        hierarchy.place(from),
+        &mut work.up,
+        &mut work.up_queue,
+    );
+    work.up.list(hierarchy.names(), &mut work.settled);
     work.up.clear();
 }
 
@@ -48,10 +53,10 @@ pub fn search_down<L: Ledger>(
     work.settled.clear();
     search(
         hierarchy.descents(),
-        to,
+        hierarchy.place(to),
         &mut work.down,
         &mut work.down_queue,
     );
-    work.down.list(&mut work.settled);
+    work.down.list(hierarchy.names(), &mut work.settled);
     work.down.clear();
 }

@@ -1,8 +1,10 @@
-use Rattle.std.proofs.Common.{◌≡◌, ℕ, [], Option, Some, None, true, false, refl, subst}
+use Rattle.std.proofs.Common.{◌≡◌, ℕ, List, [], Option, Some, None, true, false, refl, subst}
 use Rattle.walk_hierarchy.specs.declared.meeting.Meeting.{Meeting}
 use Rattle.walk_hierarchy.specs.Hierarchy.{HasArc, IsUpDownSum}
 use Rattle.walk_laws.specs.Sums.{IsLeast}
 use Rattle.walk_hierarchy.specs.Meeting.{IsArcBack, IsBest, HasBest}
+use Rattle.walk_hierarchy.specs.declared.labels.Label.{Label}
+use Rattle.walk_hierarchy.specs.Places.{by_vertex}
 use Rattle.walk_hierarchy.specs.Unfolding.{IsUnfolding}
 use Rattle.walk_hierarchy.proofs.MeetLaws.{least_sum, least_there, least_back}
 use Rattle.walk_hierarchy.proofs.UnfoldLaws.{way_over, shortest_walk}
@@ -14,8 +16,8 @@ true_not_false e = cc
 pub returns-in_default-clause-none : goal.returns-in_default-clause-none
 returns-in_default-clause-none c =
     let h = c.args.hierarchy.now in
-    let up = c.args.up.now in
-    let down = c.args.down.now in
+    let up : List (Option Label) = by_vertex c.args.hierarchy.now.ranks c.args.names.now c.args.up.now in
+    let down : List (Option Label) = by_vertex c.args.hierarchy.now.ranks c.args.names.now c.args.down.now in
     let best : HasBest (HasArc h.up) (IsArcBack h.down) c.args.a.0 c.args.b.0 up down None =
     subst (λ (r : Option Meeting). HasBest (HasArc h.up) (IsArcBack h.down) c.args.a.0 c.args.b.0 up down r) c.in_default.is c.requires.best in
     let none : (m : ℕ) → IsUpDownSum h c.args.a c.args.b m → ⊥ = least_sum h c.args.a c.args.b up down None best in
@@ -24,22 +26,22 @@ returns-in_default-clause-none c =
 pub walk_by-requires-clause-there : goal.walk_by-requires-clause-there
 walk_by-requires-clause-there c =
     let h = c.args.hierarchy.now in
-    let best : IsBest (HasArc h.up) (IsArcBack h.down) c.args.a.0 c.args.b.0 c.args.up.now c.args.down.now c.in-Some.meeting =
-    subst (λ (r : Option Meeting). HasBest (HasArc h.up) (IsArcBack h.down) c.args.a.0 c.args.b.0 c.args.up.now c.args.down.now r) c.in-Some.is c.requires.best in
-    least_there (HasArc h.up) (IsArcBack h.down) c.args.a.0 c.args.b.0 c.args.up.now c.args.down.now c.in-Some.meeting best c.requires.up c.requires.down
+    let best : IsBest (HasArc h.up) (IsArcBack h.down) c.args.a.0 c.args.b.0 (by_vertex h.ranks c.args.names.now c.args.up.now) (by_vertex h.ranks c.args.names.now c.args.down.now) c.in-Some.meeting =
+    subst (λ (r : Option Meeting). HasBest (HasArc h.up) (IsArcBack h.down) c.args.a.0 c.args.b.0 (by_vertex h.ranks c.args.names.now c.args.up.now) (by_vertex h.ranks c.args.names.now c.args.down.now) r) c.in-Some.is c.requires.best in
+    least_there (HasArc h.up) (IsArcBack h.down) c.args.a.0 c.args.b.0 (by_vertex h.ranks c.args.names.now c.args.up.now) (by_vertex h.ranks c.args.names.now c.args.down.now) c.in-Some.meeting best c.requires.up c.requires.down
 
 pub walk_by-requires-clause-back : goal.walk_by-requires-clause-back
 walk_by-requires-clause-back c =
     let h = c.args.hierarchy.now in
-    let best : IsBest (HasArc h.up) (IsArcBack h.down) c.args.a.0 c.args.b.0 c.args.up.now c.args.down.now c.in-Some.meeting =
-    subst (λ (r : Option Meeting). HasBest (HasArc h.up) (IsArcBack h.down) c.args.a.0 c.args.b.0 c.args.up.now c.args.down.now r) c.in-Some.is c.requires.best in
-    least_back (HasArc h.up) (IsArcBack h.down) c.args.a.0 c.args.b.0 c.args.up.now c.args.down.now c.in-Some.meeting best c.requires.up c.requires.down
+    let best : IsBest (HasArc h.up) (IsArcBack h.down) c.args.a.0 c.args.b.0 (by_vertex h.ranks c.args.names.now c.args.up.now) (by_vertex h.ranks c.args.names.now c.args.down.now) c.in-Some.meeting =
+    subst (λ (r : Option Meeting). HasBest (HasArc h.up) (IsArcBack h.down) c.args.a.0 c.args.b.0 (by_vertex h.ranks c.args.names.now c.args.up.now) (by_vertex h.ranks c.args.names.now c.args.down.now) r) c.in-Some.is c.requires.best in
+    least_back (HasArc h.up) (IsArcBack h.down) c.args.a.0 c.args.b.0 (by_vertex h.ranks c.args.names.now c.args.up.now) (by_vertex h.ranks c.args.names.now c.args.down.now) c.in-Some.meeting best c.requires.up c.requires.down
 
 pub returns-clause-none : goal.returns-clause-none
 returns-clause-none c =
     let h = c.args.hierarchy.now in
-    let up = c.args.up.now in
-    let down = c.args.down.now in
+    let up : List (Option Label) = by_vertex c.args.hierarchy.now.ranks c.args.names.now c.args.up.now in
+    let down : List (Option Label) = by_vertex c.args.hierarchy.now.ranks c.args.names.now c.args.down.now in
     let meeting = c.in-Some.meeting in
     let best : IsBest (HasArc h.up) (IsArcBack h.down) c.args.a.0 c.args.b.0 up down meeting =
     subst (λ (r : Option Meeting). HasBest (HasArc h.up) (IsArcBack h.down) c.args.a.0 c.args.b.0 up down r) c.in-Some.is c.requires.best in
@@ -49,8 +51,8 @@ returns-clause-none c =
 pub returns-clause-walks : goal.returns-clause-walks
 returns-clause-walks c = λ graph over.
     let h = c.args.hierarchy.now in
-    let up = c.args.up.now in
-    let down = c.args.down.now in
+    let up : List (Option Label) = by_vertex c.args.hierarchy.now.ranks c.args.names.now c.args.up.now in
+    let down : List (Option Label) = by_vertex c.args.hierarchy.now.ranks c.args.names.now c.args.down.now in
     let meeting = c.in-Some.meeting in
     let best : IsBest (HasArc h.up) (IsArcBack h.down) c.args.a.0 c.args.b.0 up down meeting =
     subst (λ (r : Option Meeting). HasBest (HasArc h.up) (IsArcBack h.down) c.args.a.0 c.args.b.0 up down r) c.in-Some.is c.requires.best in
@@ -62,8 +64,8 @@ returns-clause-walks c = λ graph over.
 pub returns-clause-shortest : goal.returns-clause-shortest
 returns-clause-shortest c = λ graph over gives.
     let h = c.args.hierarchy.now in
-    let up = c.args.up.now in
-    let down = c.args.down.now in
+    let up : List (Option Label) = by_vertex c.args.hierarchy.now.ranks c.args.names.now c.args.up.now in
+    let down : List (Option Label) = by_vertex c.args.hierarchy.now.ranks c.args.names.now c.args.down.now in
     let meeting = c.in-Some.meeting in
     let best : IsBest (HasArc h.up) (IsArcBack h.down) c.args.a.0 c.args.b.0 up down meeting =
     subst (λ (r : Option Meeting). HasBest (HasArc h.up) (IsArcBack h.down) c.args.a.0 c.args.b.0 up down r) c.in-Some.is c.requires.best in

@@ -1,4 +1,7 @@
 use Rattle.walk_hierarchy.proofs.hierarchy.Hierarchy.ascents.Goals as goal
 
-pub returns : goal.returns
-returns c = (c.self.inside.descents, rw (← c.self.view_is) c.self.invariant)
+pub returns-clause-rows : goal.returns-clause-rows
+returns-clause-rows c = rw (← c.self.view_is) c.self.invariant.leaving
+
+pub returns-clause-rules : goal.returns-clause-rules
+returns-clause-rules c = rw (← c.self.view_is) c.self.invariant.rules
