@@ -185,9 +185,7 @@ pub(crate) fn meet(
     let descents = hierarchy.descents();
     let from = hierarchy.place(a);
     let to = hierarchy.place(b);
-    let best = meet_between(
-        ascents, descents, from, to, up, up_queue, down, down_queue,
-    );
+    let best = meet_between(ascents, descents, from, to, up, up_queue, down, down_queue);
     with_name(best, names)
 }
 

@@ -69,5 +69,5 @@ returns-clause-settled g c =
     subst (λ (p : NodeNo). IsLeastFrom (HasHalf rows) p.0 c.search.new.labels) c.place.ensures c.search.ensures.least in
     let listed = listed_by h.ranks names c.names.ensures c.search.new.labels (HasHalf rows) (IsArcBack h.down) r c.args.to.0 at c.list.ensures.listed.0 c.list.ensures.listed.1.0 least in
     rw c.list.ensures.listed.1.1
-        (settled_down h c.args.to.0 _ (settled_from (IsArcBack h.down) c.args.to.0 (by_vertex h.ranks names c.search.new.labels) _
-        (least_by h.ranks names c.names.ensures c.search.new.labels (HasHalf rows) (IsArcBack h.down) r c.args.to.0 at least) listed))
+    (settled_down h c.args.to.0 _ (settled_from (IsArcBack h.down) c.args.to.0 (by_vertex h.ranks names c.search.new.labels) _
+    (least_by h.ranks names c.names.ensures c.search.new.labels (HasHalf rows) (IsArcBack h.down) r c.args.to.0 at least) listed))

@@ -13,8 +13,8 @@ new-requires-clause-vertices c =
     let is : c.in_ok-placed_up.placed_up.items ≡ placed c.as_slice-2.result.now c.as_slice-3.result.now = c.in_ok-placed_up.ensures in
     let same : placed c.as_slice-2.result.now c.as_slice-3.result.now ≡ placed c.args.ranks c.args.up = λ i. placed (c.as_slice-2.ensures i) (c.as_slice-3.ensures i) in
     rw c.len-nodes.ensures
-        (All-same (λ arc. vertex_of Out arc ≤ length c.args.ranks) c.as_slice-4.result.now (placed c.args.ranks c.args.up) (c.as_slice-4.ensures.value ∙ is ∙ same)
-        (low_up h c.requires.rules))
+    (All-same (λ arc. vertex_of Out arc ≤ length c.args.ranks) c.as_slice-4.result.now (placed c.args.ranks c.args.up) (c.as_slice-4.ensures.value ∙ is ∙ same)
+    (low_up h c.requires.rules))
 
 pub new-requires-2-clause-vertices : goal.new-requires-2-clause-vertices
 new-requires-2-clause-vertices c =
@@ -22,5 +22,5 @@ new-requires-2-clause-vertices c =
     let is : c.in_ok-placed_down.placed_down.items ≡ placed c.as_slice-5.result.now c.as_slice-6.result.now = c.in_ok-placed_down.ensures in
     let same : placed c.as_slice-5.result.now c.as_slice-6.result.now ≡ placed c.args.ranks c.args.down = λ i. placed (c.as_slice-5.ensures i) (c.as_slice-6.ensures i) in
     rw c.len-nodes.ensures
-        (All-same (λ arc. vertex_of Into arc ≤ length c.args.ranks) c.as_slice-7.result.now (placed c.args.ranks c.args.down) (c.as_slice-7.ensures.value ∙ is ∙ same)
-        (low_down h c.requires.rules))
+    (All-same (λ arc. vertex_of Into arc ≤ length c.args.ranks) c.as_slice-7.result.now (placed c.args.ranks c.args.down) (c.as_slice-7.ensures.value ∙ is ∙ same)
+    (low_down h c.requires.rules))

@@ -9,8 +9,7 @@ pub returns-clause-listed : goal.returns-clause-listed
 returns-clause-listed c =
     let marks = c.self.inside.marks.items in
     let touched = c.self.inside.touched.items in
-    let names = c.args.names.now in
-    (
+    let names = c.args.names.now in (
       map (entry_of marks) touched,
       (
         rw (← c.self.view_is) (entries_listed marks touched _ c.self.invariant),
