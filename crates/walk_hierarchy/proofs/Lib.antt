@@ -1,5 +1,6 @@
 pub mod RowLemmas
 pub mod SearchLaws
+pub mod SweepLaws
 pub mod PlaceLaws
 pub mod HalfLaws
 pub mod LabelLaws

@@ -1,5 +1,5 @@
 -- Sums, labels and meetings by place, and by vertex.
-use Rattle.std.proofs.Common.{◌≡◌, ◌≢◌, ◌∙◌, ℕ, zero, suc, ◌+◌, ◌-◌, ◌<◌, ◌≤◌, ◌⊎◌, List, [], ◌∷◌, length, slice_index_or, map, Option, Some, None, option_map, refl, sym, ap, subst, inl, inr, arith}
+use Rattle.std.proofs.Common.{◌≡◌, ◌∙◌, ℕ, zero, suc, ◌+◌, ◌-◌, ◌<◌, ◌⊎◌, List, [], ◌∷◌, length, slice_index_or, map, Option, Some, None, option_map, refl, sym, ap, subst, inl, inr, arith}
 use Rattle.std.specs.Prelude.{Contains, slice_index, IfSome}
 use Rattle.std.proofs.lemmas.Bool.{cases_lt}
 use Rattle.std.proofs.lemmas.List.{get_or-map, get_or_past, length-map}
@@ -9,12 +9,12 @@ use Rattle.walk_queue.specs.Keys.{key_at}
 use Rattle.walk_hierarchy.specs.declared.labels.Label.{Label}
 use Rattle.walk_hierarchy.specs.declared.meeting.Meeting.{Meeting}
 use Rattle.walk_hierarchy.specs.declared.settled.Settled.{Settled}
-use Rattle.walk_laws.specs.Sums.{IsSum, IsLeast}
+use Rattle.walk_laws.specs.Sums.{IsSum}
 use Rattle.walk_laws.specs.Sums.IsSum.{none, more}
-use Rattle.walk_hierarchy.specs.Labels.{HasLabel, HasWithin, IsVia, IsLeastFrom, AreSums, Meets, AreListed}
-use Rattle.walk_hierarchy.specs.Meeting.{IsBetween, IsBest, HasBest}
+use Rattle.walk_hierarchy.specs.Labels.{HasLabel, IsVia, IsLeastFrom, AreSums, AreListed}
+use Rattle.walk_hierarchy.specs.Meeting.{IsBetween, HasBest}
 use Rattle.walk_hierarchy.proofs.SearchLaws.{label_low}
-use Rattle.walk_hierarchy.specs.Places.{IsAt, place_of, AreNames, label_name, settled_name, meeting_name, by_vertex, IsPlaced, IsRenumbered}
+use Rattle.walk_hierarchy.specs.Places.{IsAt, place_of, AreNames, label_name, settled_name, meeting_name, by_vertex, IsRenumbered}
 
 some_same : {A : Type 0} (x y : A) → Some x ≡ Some y → x ≡ y
 some_same x y e = cc

@@ -26,13 +26,13 @@ use Rattle.walk_laws.proofs.SumLemmas.{IsSum-append, IsSum-one}
 pub Some-same : {A : Type 0} (x y : A) → Some x ≡ Some y → x ≡ y
 Some-same x y e = cc
 
-some_or_none : {A : Type 0} (x : A) → None ≡ Some x → ⊥
+pub some_or_none : {A : Type 0} (x : A) → None ≡ Some x → ⊥
 some_or_none x e = cc
 
 pub label_same : (labels : List (Option Label)) (v : ℕ) (x y : Label) → HasLabel labels v x → HasLabel labels v y → x ≡ y
 label_same labels v x y f g = Some-same x y (sym f.is ∙ g.is)
 
-entry_low : {A : Type 0} (entries : List (Option A)) (v : ℕ) (x : A) → key_at entries v ≡ Some x → v < length entries
+pub entry_low : {A : Type 0} (entries : List (Option A)) (v : ℕ) (x : A) → key_at entries v ≡ Some x → v < length entries
 entry_low entries v x is = elim (cases_lt v (length entries)) [
   | inl lt ↦ lt
   | inr past ↦ absurd (some_or_none x (sym (get_or_past entries v None past) ∙ is))
@@ -47,7 +47,7 @@ entry_here entries v x low = get_or-set_same entries v x None low
 pub entry_other : {A : Type 0} (entries : List (Option A)) (v u : ℕ) (x : Option A) → u ≢ v → key_at (slice_set entries v x) u ≡ key_at entries u
 entry_other entries v u x ne = get_or-set_other entries v u x None ne
 
-entry_none : {A : Type 0} (n v : ℕ) (x : A) → key_at (replicate n None) v ≡ Some x → ⊥
+pub entry_none : {A : Type 0} (n v : ℕ) (x : A) → key_at (replicate n None) v ≡ Some x → ⊥
 entry_none {A} n v x is =
     let low : v < n = subst (λ (k : ℕ). v < k) (length-replicate {A = Option A} n None) (entry_low (replicate n None) v x is) in
     some_or_none x (sym (get_or-replicate {A = Option A} n v None None low) ∙ is)
@@ -279,7 +279,7 @@ going_taken rows from bound v s labels queue search waits =
       passed = λ k d lt. absurd (omega arith);
     }
 
-pub less_taken : (labels : List (Option Label)) (queue : List (Option ℕ)) (v s : ℕ) → Waits queue v s → work_left labels (slice_set queue v None) < work_left labels queue
+pub less_taken : {A : Type 0} (labels : List (Option Label)) (queue : List (Option A)) (v : ℕ) (s : A) → key_at queue v ≡ Some s → work_left labels (slice_set queue v None) < work_left labels queue
 less_taken labels queue v s waits =
     let low : v < length queue = entry_low queue v s waits in
     let sums = sum_by-set waiting queue v None None low in
@@ -388,8 +388,8 @@ least_far bound queue at least le is v s waits = elim (cases_lt s least) [
   | inr ge ↦ omega (arith, ge, le)
 ]
 
-pub less_stopped : (labels : List (Option Label)) (queue : List (Option ℕ)) (n : ℕ) → work_left labels (replicate n None) ≤ work_left labels queue
-less_stopped labels queue n = omega (arith, sum_by-replicate waiting n None)
+pub less_stopped : (labels : List (Option Label)) (queue : List (Option ℕ)) (n : ℕ) → work_left labels (replicate {A = Option ℕ} n None) ≤ work_left labels queue
+less_stopped labels queue n = omega (arith, sum_by-replicate (waiting {A = ℕ}) n None)
 
 -- no label rises
 
@@ -448,10 +448,10 @@ least_from rows places c from labels queue search empty =
       comes = search.sound.comes;
     }
 
-pub none_waits : (queue : List (Option ℕ)) (n : ℕ) → length queue ≡ n → IsEmpty queue → queue ≡ replicate n None
-none_waits queue n many empty =
-    same_lists queue (replicate n None) (many ∙ sym (length-replicate {A = Option ℕ} n None))
-    (λ k d lt. get_or_default queue k d None lt ∙ empty k ∙ sym (get_or-replicate {A = Option ℕ} n k None d (omega arith)))
+pub none_waits : {A : Type 0} (queue : List (Option A)) (n : ℕ) → length queue ≡ n → IsEmpty queue → queue ≡ replicate n None
+none_waits {A} queue n many empty =
+    same_lists queue (replicate n None) (many ∙ sym (length-replicate {A = Option A} n None))
+    (λ k d lt. get_or_default queue k d None lt ∙ empty k ∙ sym (get_or-replicate {A = Option A} n k None d (omega arith)))
 
 -- along one more half of a row that was lent
 

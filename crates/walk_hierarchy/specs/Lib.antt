@@ -6,6 +6,7 @@ pub mod Places
 pub mod Stored
 pub mod Idle
 pub mod Search
+pub mod Sweep
 pub mod Meeting
 pub mod Unfolding
 pub mod Samples

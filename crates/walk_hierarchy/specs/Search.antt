@@ -73,10 +73,10 @@ abbrev pub weight : Option Label → ℕ
 weight None = 18446744073709551616
 weight (Some x) = x.seconds
 
-abbrev pub waiting : Option ℕ → ℕ
+abbrev pub waiting : {A : Type 0} → Option A → ℕ
 waiting key = if is_some key then 1 else 0
 
-abbrev pub work_left : List (Option Label) → List (Option ℕ) → ℕ
+abbrev pub work_left : {A : Type 0} → List (Option Label) → List (Option A) → ℕ
 work_left labels queue = 2 * sum_by weight labels + sum_by waiting queue
 
 -- what a label that comes to a vertex leaves

@@ -21,6 +21,7 @@ mod places;
 mod rows;
 mod search;
 mod settled;
+mod sweep;
 #[cfg(test)]
 mod tests;
 mod unfolding;

@@ -2,9 +2,9 @@
 ghost use Rattle.std.specs.Prelude.{◌≡◌, ◌+◌, ◌≤◌, ◌<◌, ◌-◌, ◌^◌, ℕ, length, replicate, None};
 ghost use Rattle.walk_queue.specs.Keys.{key_at};
 ghost use Rattle.walk_hierarchy.specs.declared.labels.Label.{Label};
-ghost use Rattle.walk_hierarchy.specs.Labels.{HasLabel, IsLeastFrom};
+ghost use Rattle.walk_hierarchy.specs.Labels.{HasLabel};
 ghost use Rattle.walk_hierarchy.specs.declared.rows.Rows.{Rows};
-ghost use Rattle.walk_hierarchy.specs.Search.{HasHalf, Climbs, Waits, IsGoing, IsSearch, IsOnward, work_left, labels_with, queue_with, row_of};
+ghost use Rattle.walk_hierarchy.specs.Search.{Climbs, Waits, IsGoing, IsSearch, IsOnward, work_left, labels_with, queue_with, row_of};
 
 use crate::labels::{Label, Labels};
 use crate::rows::Rows;
@@ -65,20 +65,4 @@ pub(crate) fn begin(from: NodeNo, labels: &mut Labels, queue: &mut MinQueue<u64>
         parent: from,
     };
     mark(labels, queue, from, start);
-}
-
-// Labels each vertex to which the rows lead with its least seconds.
-pub(crate) fn search(rows: &Rows, from: NodeNo, labels: &mut Labels, queue: &mut MinQueue<u64>)
-    requires climbs { Climbs rows.now (length labels.old) }
-    requires from { from.0 < length labels.old }
-    requires labels { labels.old ≡ replicate (length labels.old) None }
-    requires queue { queue.old ≡ replicate (length labels.old) None }
-    ensures least { IsLeastFrom (HasHalf rows.now) from.0 labels.new }
-    ensures queue { queue.new ≡ queue.old }
-    ensures many { length labels.new ≡ length labels.old }
-{
-    begin(from, labels, queue);
-    'vertices: while let Some((at, seconds)) = queue.take_least() {
-        leave(rows, NodeNo(at), seconds, labels, queue);
-    }
 }

@@ -3,7 +3,7 @@ ghost use Rattle.std.specs.Prelude.{◌≡◌, ◌+◌, length};
 ghost use Rattle.walk_hierarchy.specs.Hierarchy.{IsNode, IsUpSum, IsDownSum, AreSettled};
 
 use crate::hierarchy::Hierarchy;
-use crate::search::search;
+use crate::sweep::sweep;
 use crate::work::Work;
 use move_model::NodeNo;
 use std::sync::ledger::Ledger;
@@ -25,11 +25,11 @@ pub fn search_up<L: Ledger>(
 {
     searches.tick();
     work.settled.clear();
-    search(
+    sweep(
         hierarchy.ascents(),
         hierarchy.place(from),
         &mut work.up,
-        &mut work.up_queue,
+        &mut work.sweep_queue,
     );
     work.up.list(hierarchy.names(), &mut work.settled);
     work.up.clear();
@@ -51,11 +51,11 @@ pub fn search_down<L: Ledger>(
 {
     searches.tick();
     work.settled.clear();
-    search(
+    sweep(
         hierarchy.descents(),
         hierarchy.place(to),
         &mut work.down,
-        &mut work.down_queue,
+        &mut work.sweep_queue,
     );
     work.down.list(hierarchy.names(), &mut work.settled);
     work.down.clear();

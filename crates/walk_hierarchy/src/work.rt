@@ -16,6 +16,7 @@ pub struct Work {
     pub(crate) down: Labels,
     pub(crate) up_queue: MinQueue<u64>,
     pub(crate) down_queue: MinQueue<u64>,
+    pub(crate) sweep_queue: MinQueue<()>,
     pub(crate) settled: Vec<Settled>,
 }
 
@@ -28,7 +29,7 @@ impl Model for Work {
 
     ghost view = { λ work. record { nodes = length work.up_queue - 1; settled = work.settled.items } };
 
-    ghost invariant = { λ work. IsIdle work.up work.down work.up_queue work.down_queue (vec_capacity work.settled) };
+    ghost invariant = { λ work. IsIdle work.up work.down work.up_queue work.down_queue work.sweep_queue (vec_capacity work.settled) };
 }
 
 impl Work {
@@ -42,6 +43,7 @@ impl Work {
             down: Labels::new(alloc, places)?,
             up_queue: MinQueue::new(alloc, places)?,
             down_queue: MinQueue::new(alloc, places)?,
+            sweep_queue: MinQueue::new(alloc, places)?,
             settled: Vec::with_capacity(alloc, places as usize)?,
         })
     }

@@ -12,8 +12,8 @@ use Rattle.walk_hierarchy.proofs.HalfLaws.{descents_climb, down_renumbered, vert
 use Rattle.walk_hierarchy.proofs.MeetLaws.{settled_from, settled_down}
 use Rattle.walk_hierarchy.proofs.up_down.search_down.Goals as goal
 
-pub search-requires-clause-climbs : goal.search-requires-clause-climbs
-search-requires-clause-climbs g c =
+pub sweep-requires-clause-climbs : goal.sweep-requires-clause-climbs
+sweep-requires-clause-climbs g c =
     let s = c.descents.ensures in
     let idle = c.work.invariant in
     let places : length c.args.hierarchy.now.ranks + 1 ≡ length c.work.inside.down =
@@ -27,8 +27,8 @@ search-requires-clause-climbs g c =
     ) in
     subst (λ (n : ℕ). Climbs c.descents.result.now n) places (descents_climb c.args.hierarchy.now s.rules c.descents.result.now s.rows)
 
-pub search-requires-clause-from : goal.search-requires-clause-from
-search-requires-clause-from g c =
+pub sweep-requires-clause-from : goal.sweep-requires-clause-from
+sweep-requires-clause-from g c =
     let h = c.args.hierarchy.now in
     let idle = c.work.invariant in
     let places : length c.args.hierarchy.now.ranks + 1 ≡ length c.work.inside.down =
@@ -55,7 +55,7 @@ list-requires-clause-named g c =
       ap length idle.down_none,
       length-replicate {A = Option Label} (length c.work.inside.up_queue) None,
     ) in
-    omega (arith, c.names.ensures.many, c.search.ensures.many, places)
+    omega (arith, c.names.ensures.many, c.sweep.ensures.many, places)
 
 pub returns-clause-settled : goal.returns-clause-settled
 returns-clause-settled g c =
@@ -65,9 +65,9 @@ returns-clause-settled g c =
     let s = c.descents.ensures in
     let r = down_renumbered h s.rules rows s.rows in
     let at = vertex_at h c.args.to c.requires.exists in
-    let least : IsLeastFrom (HasHalf rows) (place_of h.ranks c.args.to.0) c.search.new.labels =
-    subst (λ (p : NodeNo). IsLeastFrom (HasHalf rows) p.0 c.search.new.labels) c.place.ensures c.search.ensures.least in
-    let listed = listed_by h.ranks names c.names.ensures c.search.new.labels (HasHalf rows) (IsArcBack h.down) r c.args.to.0 at c.list.ensures.listed.0 c.list.ensures.listed.1.0 least in
+    let least : IsLeastFrom (HasHalf rows) (place_of h.ranks c.args.to.0) c.sweep.new.labels =
+    subst (λ (p : NodeNo). IsLeastFrom (HasHalf rows) p.0 c.sweep.new.labels) c.place.ensures c.sweep.ensures.least in
+    let listed = listed_by h.ranks names c.names.ensures c.sweep.new.labels (HasHalf rows) (IsArcBack h.down) r c.args.to.0 at c.list.ensures.listed.0 c.list.ensures.listed.1.0 least in
     rw c.list.ensures.listed.1.1
-    (settled_down h c.args.to.0 _ (settled_from (IsArcBack h.down) c.args.to.0 (by_vertex h.ranks names c.search.new.labels) _
-    (least_by h.ranks names c.names.ensures c.search.new.labels (HasHalf rows) (IsArcBack h.down) r c.args.to.0 at least) listed))
+    (settled_down h c.args.to.0 _ (settled_from (IsArcBack h.down) c.args.to.0 (by_vertex h.ranks names c.sweep.new.labels) _
+    (least_by h.ranks names c.names.ensures c.sweep.new.labels (HasHalf rows) (IsArcBack h.down) r c.args.to.0 at least) listed))

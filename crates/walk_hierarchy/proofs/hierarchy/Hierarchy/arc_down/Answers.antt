@@ -1,10 +1,10 @@
-use Rattle.std.proofs.Common.{◌≡◌, ◌+◌, ◌<◌, ℕ, List, length, sym, ap, subst, ◌∙◌, arith}
-use Rattle.std.specs.Prelude.{All, Contains}
+use Rattle.std.proofs.Common.{◌≡◌, ◌+◌, ◌<◌, List, length, sym, ap, subst, ◌∙◌, arith}
+use Rattle.std.specs.Prelude.{Contains}
 use Rattle.std.proofs.lemmas.List.Elements.{All-contains}
 use Rattle.move_model.specs.declared.network.NodeNo.{NodeNo}
 use Rattle.walk_hierarchy.specs.declared.arcs.UpDown.{UpDown}
 use Rattle.walk_hierarchy.specs.declared.rows.Half.{Half}
-use Rattle.walk_hierarchy.specs.Hierarchy.{Parts, IsNode, IsArcDown}
+use Rattle.walk_hierarchy.specs.Hierarchy.{Parts, IsArcDown}
 use Rattle.walk_hierarchy.specs.Places.{place_of}
 use Rattle.walk_hierarchy.specs.Search.{row_of}
 use Rattle.walk_hierarchy.specs.Stored.{IsStored}
