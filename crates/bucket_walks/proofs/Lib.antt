@@ -1,4 +1,5 @@
 pub mod ListLemmas
+pub mod SlimLemmas
 pub mod LowerLemmas
 pub mod LeastLaws
 pub mod BoundLemmas

@@ -1,4 +1,5 @@
 pub mod Starts
+pub mod Slim
 pub mod Scan
 pub mod Gathered
 pub mod Buckets

@@ -11,6 +11,7 @@ ghost use Rattle.bucket_walks.specs.Buckets.{IsBefore, IsBuckets, AreBucketsOf, 
 use crate::bucket::{Bucket, BucketList};
 use crate::gather::gathered;
 use crate::scan::{clear, scan};
+use crate::slim::{Slim, slims};
 use crate::starts::starts;
 use move_model::{NoMemory, NodeNo, Stops, WalkRow};
 use std::alloc::Global;
@@ -27,6 +28,9 @@ pub struct Buckets {
     // Where the entries of each vertex begin.
     to_starts: Vec<u32>,
     from_starts: Vec<u32>,
+    // The entries in half the room, for a faster search.
+    to_slims: Vec<Slim>,
+    from_slims: Vec<Slim>,
     nodes: u32,
     stops: u32,
 }
@@ -40,7 +44,7 @@ impl Model for Buckets {
     ghost view = { λ buckets. record { nodes = buckets.nodes; stops = buckets.stops; to = buckets.to; from = buckets.from } };
 
     ghost invariant = { λ buckets. IsStored (record { nodes = buckets.nodes; stops = buckets.stops; to = buckets.to; from = buckets.from })
-        buckets.to_starts.items buckets.from_starts.items };
+        buckets.to_starts.items buckets.from_starts.items buckets.to_slims.items buckets.from_slims.items };
 }
 
 // The vertices of entries.
@@ -92,11 +96,15 @@ impl Buckets {
     {
         let to_starts = starts_of(alloc, nodes, to.as_slice())?;
         let from_starts = starts_of(alloc, nodes, from.as_slice())?;
+        let to_slims = slims(alloc, to.as_slice())?;
+        let from_slims = slims(alloc, from.as_slice())?;
         Ok(Buckets {
             to,
             from,
             to_starts,
             from_starts,
+            to_slims,
+            from_slims,
             nodes,
             stops,
         })
@@ -160,7 +168,13 @@ impl Buckets {
         let _ = hierarchy.nodes();
         search_up(hierarchy, from, work, searches);
         clear(row, self.stops);
-        scan(self.to.as_slice(), &self.to_starts, work.settled(), row);
+        scan(
+            self.to.as_slice(),
+            &self.to_slims,
+            &self.to_starts,
+            work.settled(),
+            row,
+        );
     }
 
     /// Leaves in the row, for each stop, the least sum of an entry from the stop and of arcs down to a vertex, or None where
@@ -188,6 +202,12 @@ impl Buckets {
         let _ = hierarchy.nodes();
         search_down(hierarchy, to, work, searches);
         clear(row, self.stops);
-        scan(self.from.as_slice(), &self.from_starts, work.settled(), row);
+        scan(
+            self.from.as_slice(),
+            &self.from_slims,
+            &self.from_starts,
+            work.settled(),
+            row,
+        );
     }
 }

@@ -16,6 +16,7 @@ mod buckets;
 mod bypasses;
 mod gather;
 mod scan;
+mod slim;
 mod starts;
 #[cfg(test)]
 mod tests;

@@ -1,11 +1,13 @@
 // Least sums of a search and of bucket entries, for each stop.
-ghost use Rattle.std.specs.Prelude.{◌≡◌, ◌↔◌, ◌+◌, ◌<◌, ◌≤◌, ℕ, All, Contains, None, length, slice_index_or};
+ghost use Rattle.std.specs.Prelude.{◌≡◌, ◌↔◌, ◌+◌, ◌<◌, ◌≤◌, ℕ, All, Contains, List, None, length, map, slice_index_or};
 ghost use Rattle.walk_laws.specs.Sums.{longest};
 ghost use Rattle.bucket_walks.specs.declared.bucket.Bucket.{Bucket};
+ghost use Rattle.bucket_walks.specs.Slim.{slim_of, AreSlim};
 ghost use Rattle.bucket_walks.specs.Scan.{Lowers, lesser_of, IsAt, IsBy, IsOver};
 ghost use Rattle.bucket_walks.specs.Starts.{AreStarts, nodes_of};
 
 use crate::bucket::Bucket;
+use crate::slim::Slim;
 use crate::starts::row;
 use move_model::{NodeNo, StopNo, WalkRow};
 use walk_hierarchy::Settled;
@@ -64,8 +66,27 @@ fn entries_at<'a>(list: &'a [Bucket], starts: &[u32], node: NodeNo) -> &'a [Buck
     row(list, starts, node)
 }
 
+// Goes on by the entries of a vertex that is some seconds away, in half the room.
+#[inline]
+fn lower_by_slim(slims: &[Slim], seconds: u64, walks: &mut WalkRow)
+    requires stops { All (λ slim. slim.stop.0 < length walks.old) slims.now }
+    requires few { seconds ≤ 4000000000000000000 }
+    ensures { (entries : List Bucket) → slims.now ≡ map slim_of entries → Lowers walks.old walks.new (IsBy entries seconds) }
+{
+    for slim in slims {
+        lower(walks, slim.stop, seconds + u64::from(slim.seconds));
+    }
+}
+
 // Goes on by the entries of each vertex to which a search came.
-pub(crate) fn scan(list: &[Bucket], starts: &[u32], settled: &[Settled], walks: &mut WalkRow)
+pub(crate) fn scan(
+    list: &[Bucket],
+    slims: &[Slim],
+    starts: &[u32],
+    settled: &[Settled],
+    walks: &mut WalkRow,
+)
+    requires slim { AreSlim slims.now list.now }
     requires starts { AreStarts starts.now (nodes_of list.now) }
     requires stops { All (λ entry. entry.stop.0 < length walks.old) list.now }
     requires short { All (λ entry. entry.seconds ≤ longest) list.now }
@@ -74,6 +95,10 @@ pub(crate) fn scan(list: &[Bucket], starts: &[u32], settled: &[Settled], walks: 
     ensures { Lowers walks.old walks.new (IsOver settled.now list.now) }
 {
     for there in settled {
-        lower_by(entries_at(list, starts, there.node), there.seconds, walks);
+        if slims.len() == list.len() {
+            lower_by_slim(row(slims, starts, there.node), there.seconds, walks);
+        } else {
+            lower_by(entries_at(list, starts, there.node), there.seconds, walks);
+        }
     }
 }
