@@ -12,3 +12,6 @@ pub mod AddLemmas
 pub mod PairRules
 pub mod OrderLemmas
 pub mod DistanceLaws
+pub mod TwinLemmas
+pub mod CopyLemmas
+pub mod IndexLemmas

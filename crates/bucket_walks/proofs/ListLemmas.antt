@@ -3,7 +3,7 @@ use Rattle.std.proofs.Common.{◌≡◌, ◌∙◌, ◌+◌, ◌-◌, ◌<◌, �
 use Rattle.std.specs.Prelude.{All, Contains}
 use Rattle.std.proofs.lemmas.Bool.{cases_lt}
 use Rattle.std.proofs.lemmas.List.{take_more, get_or-take, get_or-drop, get_or-map, get_or_default, length-take-le, length-drop, length-map}
-use Rattle.std.proofs.lemmas.List.Elements.{Contains-push, Contains-push_cases, Contains-append_left, Contains-get_or, All-contains}
+use Rattle.std.proofs.lemmas.List.Elements.{Contains-push, Contains-push_cases, Contains-append_left, Contains-get_or, All-contains, All-take, All-drop}
 use Rattle.bucket_walks.specs.Starts.{IsFirst, AreStarts, row_at}
 
 -- the first i + 1 elements, by the element that a loop reads
@@ -89,3 +89,7 @@ all_part P xs ys part all = λ k d lt. All-contains P xs (get_or ys k d) all (pa
 -- an element of a list, at its own default
 pub read_is : {X : Type 0} (xs : List X) (i : ℕ) (d : X) → i < length xs → get_or xs i d ≡ get_or xs i (get_or xs i d)
 read_is xs i d lt = get_or_default xs i d (get_or xs i d) lt
+
+-- what holds of each item holds of each of a vertex
+pub row_part : {X : Type 0} (P : X → Type 0) (starts : List ℕ) (items : List X) (v : ℕ) → All P items → All P (row_at starts items v)
+row_part P starts items v all = All-take P (get_or starts (v + 1) 0 - get_or starts v 0) (drop (get_or starts v 0) items) (All-drop P (get_or starts v 0) items all)

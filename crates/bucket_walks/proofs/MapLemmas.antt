@@ -37,11 +37,13 @@ not_after : (entry other : Bucket) → IsBefore entry other → entry.node.0 ≤
 not_after entry other before = elim before [ inl lt ↦ omega arith | inr same ↦ omega (arith, same.0) ]
 
 -- entries in order rise by vertex
+pub entries_rise : (list : List Bucket) → AllAdjacentBelow IsBefore list (length list) → IsNonDecreasingBy (λ entry. entry.node.0) list
+entries_rise list in_order =
+    IsNonDecreasingBy-from_all_adjacent (λ (entry : Bucket). entry.node.0) list
+    (λ k d lt. not_after (get_or list k d) (get_or list (k + 1) d) (in_order k d lt))
+
 pub nodes_rise : (list : List Bucket) → AllAdjacentBelow IsBefore list (length list) → IsNonDecreasing (nodes_of list)
-nodes_rise list in_order =
-    map_rises (λ (entry : Bucket). entry.node.0) list
-    (IsNonDecreasingBy-from_all_adjacent (λ (entry : Bucket). entry.node.0) list
-    (λ k d lt. not_after (get_or list k d) (get_or list (k + 1) d) (in_order k d lt)))
+nodes_rise list in_order = map_rises (λ (entry : Bucket). entry.node.0) list (entries_rise list in_order)
 
 past_to : (h : Parts) (v w l : ℕ) → Contains (map (bypass_of To) h.up) (record { seconds = l; node = record { 0 = v }; over = record { 0 = w } }) ↔ HasArc h.up v w l
 past_to h v w l = (

@@ -1,12 +1,12 @@
 -- Entries in half the room.
+--     AreSmall list        the seconds of each entry need no more than 32 bits
 --     slim_of entry        the stop and the seconds of an entry
---     AreSlim slims list   as many slim entries as the list has are those of its entries, in their order
-use Rattle.std.specs.Prelude.{◌≡◌, List, length, map}
+use Rattle.std.specs.Prelude.{◌<◌, ◌^◌, List, All}
 use Rattle.bucket_walks.specs.declared.bucket.Bucket.{Bucket}
 use Rattle.bucket_walks.specs.declared.slim.Slim.{Slim}
 
+abbrev pub AreSmall : List Bucket → Type 0
+AreSmall list = All (λ entry. entry.seconds < 2 ^ 32) list
+
 abbrev pub slim_of : Bucket → Slim
 slim_of entry = record { stop = entry.stop; seconds = entry.seconds }
-
-pub record AreSlim (slims : List Slim) (list : List Bucket) : Type 0 where
-  pub each : length slims ≡ length list → slims ≡ map slim_of list

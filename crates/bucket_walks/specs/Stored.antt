@@ -1,17 +1,13 @@
 -- How buckets are stored.
---     IsStored b to_starts from_starts to_slims from_slims   b meets the rules, and the starts and the slim entries are those
---                                                            of its two lists
-use Rattle.std.specs.Prelude.{◌≡◌, ℕ, ◌+◌, List, length}
-use Rattle.bucket_walks.specs.Starts.{AreStarts, nodes_of}
-use Rattle.bucket_walks.specs.declared.slim.Slim.{Slim}
-use Rattle.bucket_walks.specs.Slim.{AreSlim}
+--     IsStored b to_index from_index   b meets the rules, and its two lists are laid out for a search
+use Rattle.std.specs.Prelude.{◌≡◌, ◌+◌, length}
+use Rattle.bucket_walks.specs.declared.index.Index.{Index}
 use Rattle.bucket_walks.specs.Buckets.{Parts, IsBuckets}
+use Rattle.bucket_walks.specs.Index.{IsIndex, starts_in}
 
-pub record IsStored (b : Parts) (to_starts from_starts : List ℕ) (to_slims from_slims : List Slim) : Type 0 where
+pub record IsStored (b : Parts) (to_index from_index : Index) : Type 0 where
   pub rules : IsBuckets b
-  pub to_each : length to_starts ≡ b.nodes + 2
-  pub to_first : AreStarts to_starts (nodes_of b.to)
-  pub from_each : length from_starts ≡ b.nodes + 2
-  pub from_first : AreStarts from_starts (nodes_of b.from)
-  pub to_slim : AreSlim to_slims b.to
-  pub from_slim : AreSlim from_slims b.from
+  pub to : IsIndex b.to b.stops to_index
+  pub to_each : length (starts_in to_index) ≡ b.nodes + 2
+  pub from : IsIndex b.from b.stops from_index
+  pub from_each : length (starts_in from_index) ≡ b.nodes + 2

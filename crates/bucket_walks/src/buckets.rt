@@ -1,18 +1,15 @@
 // Buckets.
 ghost use Rattle.std.specs.Prelude.{◌≡◌, ◌+◌, ◌≤◌, ◌<◌, ◌^◌, All, IfOk, List, length};
-ghost use Rattle.std.specs.List.{AllAdjacentBelow};
 ghost use Rattle.move_model.specs.declared.network.Stop.{Stop};
 ghost use Rattle.move_model.specs.Streets.{Streets};
 ghost use Rattle.walk_laws.specs.Sums.{IsShort};
 ghost use Rattle.walk_hierarchy.specs.Hierarchy.{IsNode, IsUpSum, IsDownSum, AreSettled, GivesDistances};
-ghost use Rattle.bucket_walks.specs.Starts.{AreStarts, nodes_of};
-ghost use Rattle.bucket_walks.specs.Buckets.{IsBefore, IsBuckets, AreBucketsOf, HoldsFirst, HoldsLast, HoldsDistancesFrom, HoldsDistancesTo};
+ghost use Rattle.bucket_walks.specs.Buckets.{IsBuckets, AreBucketsOf, HoldsFirst, HoldsLast, HoldsDistancesFrom, HoldsDistancesTo};
 
 use crate::bucket::{Bucket, BucketList};
 use crate::gather::gathered;
-use crate::scan::{clear, scan};
-use crate::slim::{Slim, slims};
-use crate::starts::starts;
+use crate::index::Index;
+use crate::scan::clear;
 use move_model::{NoMemory, NodeNo, Stops, WalkRow};
 use std::alloc::Global;
 use std::marker::Model;
@@ -25,12 +22,9 @@ use walk_hierarchy::{Hierarchy, Work, search_down, search_up};
 pub struct Buckets {
     to: BucketList,
     from: BucketList,
-    // Where the entries of each vertex begin.
-    to_starts: Vec<u32>,
-    from_starts: Vec<u32>,
-    // The entries in half the room, for a faster search.
-    to_slims: Vec<Slim>,
-    from_slims: Vec<Slim>,
+    // The entries laid out for a search.
+    to_index: Index,
+    from_index: Index,
     nodes: u32,
     stops: u32,
 }
@@ -44,28 +38,7 @@ impl Model for Buckets {
     ghost view = { λ buckets. record { nodes = buckets.nodes; stops = buckets.stops; to = buckets.to; from = buckets.from } };
 
     ghost invariant = { λ buckets. IsStored (record { nodes = buckets.nodes; stops = buckets.stops; to = buckets.to; from = buckets.from })
-        buckets.to_starts.items buckets.from_starts.items buckets.to_slims.items buckets.from_slims.items };
-}
-
-// The vertices of entries.
-fn vertices(alloc: Global, list: &[Bucket]) -> Result<Vec<u32>, NoMemory>
-    ensures { IfOk result (λ vertices. vertices.items ≡ nodes_of list.now) }
-{
-    list.iter().map(|entry| entry.node.0).collect(alloc)
-}
-
-// Where the entries of each vertex begin.
-fn starts_of(alloc: Global, nodes: u32, list: &[Bucket]) -> Result<Vec<u32>, NoMemory>
-    requires in_order { AllAdjacentBelow IsBefore list.now (length list.now) }
-    requires few { nodes ≤ 2000000 }
-    ensures many { IfOk result (λ starts. length starts.items ≡ nodes + 2) }
-    ensures first { IfOk result (λ starts. AreStarts starts.items (nodes_of list.now)) }
-{
-    if list.len() > u32::MAX as usize {
-        return Err(NoMemory);
-    }
-    let vertices = vertices(alloc, list)?;
-    starts(alloc, nodes, &vertices)
+        buckets.to_index buckets.from_index };
 }
 
 impl Buckets {
@@ -94,17 +67,13 @@ impl Buckets {
         requires rules { IsBuckets (record { nodes = nodes; stops = stops; to = to; from = from }) }
         ensures { IfOk result (λ buckets. buckets ≡ record { nodes = nodes; stops = stops; to = to; from = from }) }
     {
-        let to_starts = starts_of(alloc, nodes, to.as_slice())?;
-        let from_starts = starts_of(alloc, nodes, from.as_slice())?;
-        let to_slims = slims(alloc, to.as_slice())?;
-        let from_slims = slims(alloc, from.as_slice())?;
+        let to_index = Index::new(alloc, nodes, stops, to.as_slice())?;
+        let from_index = Index::new(alloc, nodes, stops, from.as_slice())?;
         Ok(Buckets {
             to,
             from,
-            to_starts,
-            from_starts,
-            to_slims,
-            from_slims,
+            to_index,
+            from_index,
             nodes,
             stops,
         })
@@ -168,13 +137,7 @@ impl Buckets {
         let _ = hierarchy.nodes();
         search_up(hierarchy, from, work, searches);
         clear(row, self.stops);
-        scan(
-            self.to.as_slice(),
-            &self.to_slims,
-            &self.to_starts,
-            work.settled(),
-            row,
-        );
+        self.to_index.scan(self.to.as_slice(), work.settled(), row);
     }
 
     /// Leaves in the row, for each stop, the least sum of an entry from the stop and of arcs down to a vertex, or None where
@@ -202,12 +165,7 @@ impl Buckets {
         let _ = hierarchy.nodes();
         search_down(hierarchy, to, work, searches);
         clear(row, self.stops);
-        scan(
-            self.from.as_slice(),
-            &self.from_slims,
-            &self.from_starts,
-            work.settled(),
-            row,
-        );
+        self.from_index
+            .scan(self.from.as_slice(), work.settled(), row);
     }
 }

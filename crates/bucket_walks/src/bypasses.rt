@@ -107,6 +107,6 @@ impl Bypasses {
         requires exists { node.0 + 1 < length self.now.starts.items }
         ensures { (arc : Bypass) → Contains result.now arc ↔ (Contains self.now.arcs.items arc × (arc.node ≡ node)) }
     {
-        row(&self.arcs, &self.starts, node)
+        row(&self.arcs, &self.starts, node.0)
     }
 }

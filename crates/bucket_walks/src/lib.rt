@@ -15,11 +15,13 @@ mod bucket;
 mod buckets;
 mod bypasses;
 mod gather;
+mod index;
 mod scan;
 mod slim;
 mod starts;
 #[cfg(test)]
 mod tests;
+mod twins;
 
 pub use bucket::{Bucket, BucketList};
 pub use buckets::Buckets;

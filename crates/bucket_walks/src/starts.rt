@@ -1,9 +1,8 @@
-// Where the items of each vertex begin, in lists by rising vertex.
+// Where the items of each vertex begin, in lists by rising vertex, or those of each stop in lists by rising stop.
 ghost use Rattle.std.specs.Prelude.{◌≡◌, ◌-◌, ◌+◌, ◌<◌, ◌≤◌, ◌^◌, ℕ, IfOk, length, slice_index, take, drop};
 ghost use Rattle.std.specs.List.Sorted.{IsNonDecreasing};
 ghost use Rattle.bucket_walks.specs.Starts.{IsFirst, AreStarts};
 
-use move_model::NodeNo;
 use std::alloc::{AllocError, Global};
 
 // How many items have a vertex before this one, where those before a place have.
@@ -38,14 +37,14 @@ pub(crate) fn starts(alloc: Global, last: u32, nodes: &[u32]) -> Result<Vec<u32>
 }
 
 // The items of a vertex.
-pub(crate) fn row<'a, T>(items: &'a [T], starts: &[u32], node: NodeNo) -> &'a [T]
-    requires rises { slice_index starts.now node.0 ≤ slice_index starts.now (node.0 + 1) }
-    requires within { slice_index starts.now (node.0 + 1) ≤ length items.now }
-    requires exists { node.0 + 1 < length starts.now }
-    ensures { result.now ≡ take (slice_index starts.now (node.0 + 1) - slice_index starts.now node.0)
-        (drop (slice_index starts.now node.0) items.now) }
+pub(crate) fn row<'a, T>(items: &'a [T], starts: &[u32], node: u32) -> &'a [T]
+    requires rises { slice_index starts.now node ≤ slice_index starts.now (node + 1) }
+    requires within { slice_index starts.now (node + 1) ≤ length items.now }
+    requires exists { node + 1 < length starts.now }
+    ensures { result.now ≡ take (slice_index starts.now (node + 1) - slice_index starts.now node)
+        (drop (slice_index starts.now node) items.now) }
 {
-    let begin = starts[node.0 as usize] as usize;
-    let end = starts[node.0 as usize + 1] as usize;
+    let begin = starts[node as usize] as usize;
+    let end = starts[node as usize + 1] as usize;
     &items[begin..end]
 }

@@ -1,4 +1,4 @@
-use Rattle.std.proofs.Common.{◌≡◌, ◌∙◌, ◌+◌, ℕ, List, length, take, get_or, slice_index_or, ap, subst, arith}
+use Rattle.std.proofs.Common.{◌∙◌, ◌+◌, ℕ, List, length, take, slice_index_or, ap, subst, arith}
 use Rattle.std.proofs.lemmas.List.{take_all, length-map}
 use Rattle.bucket_walks.specs.declared.bucket.Bucket.{Bucket}
 use Rattle.bucket_walks.specs.declared.slim.Slim.{Slim}
@@ -30,7 +30,7 @@ loop-slim-preserved c =
           (subst (λ (s : ℕ). Lowers c.loop-slim.walks c.lower.new.walks (IsAt (slice_index_or c.args.slims.now i no_slim).stop.0 (c.args.seconds + s))) c.from.ensures c.lower.ensures));
     }
 
-pub returns : goal.returns
-returns c entries is =
+pub returns-clause-lowers : goal.returns-clause-lowers
+returns-clause-lowers c entries is =
     subst (λ (all : List Bucket). Lowers c.args.walks.now c.loop-slim.walks (IsBy all c.args.seconds))
     (take_all c.loop-slim.slim-index entries (omega (arith, c.loop-slim-test.false, ap length is, length-map entries slim_of))) (c.loop-slim.invariant.lowers entries is)

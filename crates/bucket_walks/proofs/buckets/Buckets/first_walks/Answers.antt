@@ -1,4 +1,4 @@
-use Rattle.std.proofs.Common.{◌≡◌, ◌∙◌, ◌+◌, ℕ, List, length, sym, ap, subst}
+use Rattle.std.proofs.Common.{◌≡◌, ◌∙◌, ◌+◌, ℕ, List, sym, ap, subst}
 use Rattle.walk_hierarchy.specs.Hierarchy.{Parts, IsUpSum, AreSettled}
 use Rattle.bucket_walks.specs.declared.bucket.Bucket.{Bucket}
 use Rattle.bucket_walks.specs.declared.bypasses.Side.TheVariants.{From}
@@ -16,8 +16,8 @@ pub scan-requires-clause-exist : goal.scan-requires-clause-exist
 scan-requires-clause-exist g c =
     let h = c.args.hierarchy.now in
     let are : AreSettled (sums h c.args.from.0) c.settled.result.now = subst (AreSettled (sums h c.args.from.0)) (sym c.settled.ensures) c.search_up.ensures.settled in
-    settled_next From h c.nodes.ensures.rules c.args.from.0 c.requires.exists c.settled.result.now are (length c.deref-2.result.now)
-    (ap length c.deref-2.ensures.value ∙ c.self.invariant.to_each ∙ ap (λ (b : BucketParts). b.nodes + 2) c.self.view_is ∙ ap (λ (n : ℕ). n + 2) c.requires.same_nodes)
+    settled_next From h c.nodes.ensures.rules c.args.from.0 c.requires.exists c.settled.result.now are _
+    (c.self.invariant.to_each ∙ ap (λ (b : BucketParts). b.nodes + 2) c.self.view_is ∙ ap (λ (n : ℕ). n + 2) c.requires.same_nodes)
 
 pub scan-requires-clause-few : goal.scan-requires-clause-few
 scan-requires-clause-few g c =

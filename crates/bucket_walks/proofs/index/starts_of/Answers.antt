@@ -1,10 +1,9 @@
 use Rattle.std.proofs.Common.{◌≡◌, ◌∙◌, subst, sym}
 use Rattle.std.specs.List.Sorted.{IsNonDecreasing}
 use Rattle.bucket_walks.specs.Starts.{nodes_of}
-use Rattle.bucket_walks.proofs.MapLemmas.{nodes_rise}
-use Rattle.bucket_walks.proofs.buckets.starts_of.Goals as goal
+use Rattle.bucket_walks.proofs.index.starts_of.Goals as goal
 
 pub starts-requires-clause-rise : goal.starts-requires-clause-rise
 starts-requires-clause-rise c =
     let is : c.deref.result.now ≡ nodes_of c.args.list.now = c.deref.ensures.value ∙ c.in_ok-vertices.ensures in
-    subst IsNonDecreasing (sym is) (nodes_rise c.args.list.now c.requires.in_order)
+    subst IsNonDecreasing (sym is) c.requires.rise
