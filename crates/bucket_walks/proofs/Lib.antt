@@ -9,7 +9,6 @@ pub mod ScanLemmas
 pub mod MarkLemmas
 pub mod MapLemmas
 pub mod AddLemmas
-pub mod PairRules
 pub mod OrderLemmas
 pub mod DistanceLaws
 pub mod TwinLemmas

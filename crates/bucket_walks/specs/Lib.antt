@@ -6,4 +6,3 @@ pub mod Index
 pub mod Gathered
 pub mod Buckets
 pub mod Stored
-pub mod Pairs

@@ -1,7 +1,7 @@
 // Four vertices with a stop each: 240 seconds between 2 and 3, and 7200 between 1 and 4.
 ghost use Rattle.std.specs.Prelude.{◌≡◌, ◌≤◌, ◌<◌, ℕ, All, IfOk, length};
 ghost use Rattle.walk_hierarchy.specs.Hierarchy.{IsNode};
-ghost use Rattle.bucket_walks.specs.Pairs.{two_pairs};
+ghost use Rattle.walk_hierarchy.specs.Samples.{pairs};
 
 use crate::Buckets;
 use move_model::{Arc, Arcs, List, Network, NoMemory, NodeNo, Stop, StopNo, Stops, Trips, WalkRow};
@@ -34,8 +34,8 @@ fn arc(from: u32, to: u32, seconds: u64) -> UpDown
 }
 
 // Each vertex has its number less one for a rank.
-fn pairs(alloc: Global) -> Result<Hierarchy, NoMemory>
-    ensures { IfOk result (λ hierarchy. hierarchy ≡ two_pairs) }
+fn pairs_of(alloc: Global) -> Result<Hierarchy, NoMemory>
+    ensures { IfOk result (λ hierarchy. hierarchy ≡ pairs) }
 {
     let network = Network {
         nodes: 4,
@@ -61,7 +61,7 @@ fn pairs(alloc: Global) -> Result<Hierarchy, NoMemory>
 // A stop at each vertex from 1 to 4.
 fn stops(alloc: Global) -> Result<Stops, NoMemory>
     ensures many { IfOk result (λ stops. length stops ≡ 4) }
-    ensures stand { IfOk result (λ stops. All (λ stop. IsNode two_pairs stop.node) stops) }
+    ensures stand { IfOk result (λ stops. All (λ stop. IsNode pairs stop.node) stops) }
 {
     let mut stops = Stops::new(alloc);
     for node in 1..5 {
@@ -80,24 +80,76 @@ struct Answers {
     entries: usize,
 }
 
-// The walks from 2 and to 3, in rows that held others.
-fn ask<L: Ledger>(alloc: Global, blank: Blank) -> Result<Answers, NoMemory>
+// The walks from 2, in a row that held those from 1.
+fn first_row<L: Ledger>(
+    alloc: Global,
+    hierarchy: &Hierarchy,
+    buckets: &Buckets,
+    work: &mut Work,
+    searches: &mut Steps<L>,
+) -> Result<WalkRow, NoMemory>
+    requires four { length hierarchy.now.ranks ≡ 4 }
+    requires nodes { buckets.now.nodes ≡ 4 }
+    requires stops { buckets.now.stops ≡ 4 }
+    requires fits { work.old.nodes ≡ 4 }
+    ensures row { IfOk result (λ row. length row ≡ 4) }
+    ensures nodes { work.new.nodes ≡ work.old.nodes }
+{
+    let mut row = WalkRow::new(alloc, 4)?;
+    buckets.first_walks(hierarchy, NodeNo(1), &mut row, work, searches);
+    buckets.first_walks(hierarchy, NodeNo(2), &mut row, work, searches);
+    Ok(row)
+}
+
+// The walks to 3.
+fn last_row<L: Ledger>(
+    alloc: Global,
+    hierarchy: &Hierarchy,
+    buckets: &Buckets,
+    work: &mut Work,
+    searches: &mut Steps<L>,
+) -> Result<WalkRow, NoMemory>
+    requires four { length hierarchy.now.ranks ≡ 4 }
+    requires nodes { buckets.now.nodes ≡ 4 }
+    requires stops { buckets.now.stops ≡ 4 }
+    requires fits { work.old.nodes ≡ 4 }
+    ensures row { IfOk result (λ row. length row ≡ 4) }
+    ensures nodes { work.new.nodes ≡ work.old.nodes }
+{
+    let mut row = WalkRow::new(alloc, 4)?;
+    buckets.last_walks(hierarchy, NodeNo(3), &mut row, work, searches);
+    Ok(row)
+}
+
+fn buckets_of(alloc: Global, hierarchy: &Hierarchy) -> Result<Buckets, NoMemory>
+    requires { hierarchy.now ≡ pairs }
+    ensures nodes { IfOk result (λ buckets. buckets.nodes ≡ 4) }
+    ensures stops { IfOk result (λ buckets. buckets.stops ≡ 4) }
+{
+    let stops = stops(alloc)?;
+    Buckets::new(alloc, hierarchy, &stops)
+}
+
+// The rows of the hierarchy, and the number of entries to stops.
+fn rows<L: Ledger>(
+    alloc: Global,
+    hierarchy: &Hierarchy,
+    buckets: &Buckets,
+    blank: Blank,
+) -> Result<Answers, NoMemory>
     requires name { blank.name ≡ L.name }
     requires parts { blank.parts ≡ L.parts }
     requires some { 0 < blank.parts }
+    requires four { length hierarchy.now.ranks ≡ 4 }
+    requires nodes { buckets.now.nodes ≡ 4 }
+    requires stops { buckets.now.stops ≡ 4 }
     ensures first { IfOk result (λ answers. length answers.first ≡ 4) }
     ensures last { IfOk result (λ answers. length answers.last ≡ 4) }
 {
-    let hierarchy = pairs(alloc)?;
-    let stops = stops(alloc)?;
-    let buckets = Buckets::new(alloc, &hierarchy, &stops)?;
-    let mut work = Work::new(alloc, &hierarchy)?;
+    let mut work = Work::new(alloc, hierarchy)?;
     let mut searches = Steps::<L>::new(blank);
-    let mut first = WalkRow::new(alloc, 4)?;
-    let mut last = WalkRow::new(alloc, 4)?;
-    buckets.first_walks(&hierarchy, NodeNo(1), &mut first, &mut work, &mut searches);
-    buckets.first_walks(&hierarchy, NodeNo(2), &mut first, &mut work, &mut searches);
-    buckets.last_walks(&hierarchy, NodeNo(3), &mut last, &mut work, &mut searches);
+    let first = first_row(alloc, hierarchy, buckets, &mut work, &mut searches)?;
+    let last = last_row(alloc, hierarchy, buckets, &mut work, &mut searches)?;
     Ok(Answers {
         first,
         last,
@@ -105,9 +157,18 @@ fn ask<L: Ledger>(alloc: Global, blank: Blank) -> Result<Answers, NoMemory>
     })
 }
 
+fn ask(alloc: Global) -> Result<Answers, NoMemory>
+    ensures first { IfOk result (λ answers. length answers.first ≡ 4) }
+    ensures last { IfOk result (λ answers. length answers.last ≡ 4) }
+{
+    let hierarchy = pairs_of(alloc)?;
+    let buckets = buckets_of(alloc, &hierarchy)?;
+    rows::<Brand>(alloc, &hierarchy, &buckets, Blank::new(1))
+}
+
 #[test]
 fn walks_to_and_from_each_stop(rt: HostRuntime) -> Result<(), Fail> {
-    let found = ask::<Brand>(rt.alloc(), Blank::new(1))?;
+    let found = ask(rt.alloc())?;
     assert_eq!(rt; found.first.get(StopNo(0)), None);
     assert_eq!(rt; found.first.get(StopNo(1)), Some(0));
     assert_eq!(rt; found.first.get(StopNo(2)), Some(240));

@@ -1,19 +1,19 @@
 -- No journey has rides of which one is missed, as far as its walks are no shorter than the least sums of the hierarchy.
-use Rattle.std.proofs.Common.{◌≡◌, ◌∙◌, ◌+◌, ◌<◌, ◌≤◌, ◌⊎◌, ℕ, List, [], ◌∷◌, Option, Some, None, length, get_or, refl, sym, ap, subst, inl, inr, arith}
+use Rattle.std.proofs.Common.{◌≡◌, ◌∙◌, ◌+◌, ◌≤◌, ◌⊎◌, ℕ, List, [], ◌∷◌, Some, None, sym, ap, subst, inl, inr, arith}
 use Rattle.std.specs.Prelude.{All}
-use Rattle.std.proofs.lemmas.List.Elements.{All-head, All-tail, All-weaker}
+use Rattle.std.proofs.lemmas.List.Elements.{All-head, All-tail}
 use Rattle.move_model.specs.declared.network.Network.{Network}
 use Rattle.move_model.specs.declared.network.NodeNo.{NodeNo}
 use Rattle.move_model.specs.declared.network.Call.{Call}
 use Rattle.move_model.specs.declared.journey.Ride.{Ride}
-use Rattle.move_model.specs.Streets.{Streets, IsVertex, IsWalk, HasDistance}
+use Rattle.move_model.specs.Streets.{IsVertex, IsWalk}
 use Rattle.move_model.specs.Network.{IsNetwork, streets, node_of}
 use Rattle.move_model.specs.Journey.{IsRide, Travels}
 use Rattle.move_model.specs.Journey.Travels.{walks, rides}
 use Rattle.pareto_laws.proofs.Calls.{on_same, off_same}
 use Rattle.pareto_laws.proofs.Walks.{walk_first, walk_last, walk_same, IsWalk-begins, IsWalk-ends}
-use Rattle.walk_laws.specs.Sums.{IsLeast, HasLeast}
-use Rattle.walk_hierarchy.specs.Hierarchy.{Parts, IsUpDownSum, IsWayOver, GivesDistances}
+use Rattle.walk_laws.specs.Sums.{IsLeast}
+use Rattle.walk_hierarchy.specs.Hierarchy.{Parts, IsUpDownSum, GivesDistances}
 use Rattle.journey_build.specs.Built.{IsLeastWay, IsLeastWalk, IsMissed, IsBroken}
 use Rattle.journey_build.specs.Built.IsMissed.{no_ride, no_way, too_late}
 use Rattle.journey_build.specs.Built.IsBroken.{at_end, here, later}

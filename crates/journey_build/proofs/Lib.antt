@@ -1,5 +1,3 @@
-pub mod WalkLemmas
 pub mod StopLemmas
 pub mod BrokenLaws
 pub mod WayLaws
-pub mod PairRules

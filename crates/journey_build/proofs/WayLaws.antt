@@ -1,16 +1,14 @@
 -- The way so far, one leg on and at its end.
-use Rattle.std.proofs.Common.{◌≡◌, ◌∙◌, ◌+◌, ◌<◌, ◌≤◌, ℕ, List, [], ◌∷◌, ◌++◌, length, take, drop, get_or, refl, sym, ap, subst, append_assoc, arith}
+use Rattle.std.proofs.Common.{◌≡◌, ◌∙◌, ◌+◌, ◌<◌, ◌≤◌, ℕ, List, [], ◌∷◌, ◌++◌, length, take, drop, get_or, refl, sym, ap, subst, append_assoc}
 use Rattle.std.specs.Prelude.{All}
 use Rattle.std.proofs.lemmas.List.{take_more, drop_more, drop_all, take_all, append-nil}
 use Rattle.std.proofs.lemmas.List.Elements.{All-push, All-weaker, All-nil}
 use Rattle.move_model.specs.declared.network.Network.{Network}
 use Rattle.move_model.specs.declared.network.NodeNo.{NodeNo}
-use Rattle.move_model.specs.declared.network.Call.{Call}
 use Rattle.move_model.specs.declared.journey.Ride.{Ride}
 use Rattle.move_model.specs.declared.journey.Journey.{Journey}
-use Rattle.move_model.specs.Streets.{IsWalk}
 use Rattle.move_model.specs.Network.{IsNetwork, streets, node_of}
-use Rattle.move_model.specs.Journey.{IsRide, Travels}
+use Rattle.move_model.specs.Journey.{Travels}
 use Rattle.move_model.specs.Journey.Travels.{walks, rides}
 use Rattle.walk_hierarchy.specs.Hierarchy.{Parts, IsNode, IsUpDownSum, IsWayOver, GivesDistances}
 use Rattle.journey_build.specs.declared.leg.Leg.{Leg}

@@ -1,17 +1,16 @@
 // A walk to where a ride is boarded, and the ride.
-ghost use Rattle.std.specs.Prelude.{◌≡◌, ◌↔◌, ◌+◌, ◌≤◌, ◌-◌, ◌^◌, ℕ, min, IsTrue, IfOk, IfSome, IfNone, length};
+ghost use Rattle.std.specs.Prelude.{◌≡◌, ◌↔◌, ◌+◌, ◌≤◌, IsTrue, IfOk, IfSome, IfNone, length};
 ghost use Rattle.move_model.specs.Network.{streets, IsNetwork};
 ghost use Rattle.walk_hierarchy.specs.Hierarchy.{IsNode, IsOver};
 ghost use Rattle.journey_build.specs.Built.{IsMissed};
 ghost use Rattle.journey_build.specs.Leg.{IsLeg};
 
 use crate::calls::{calls_of, node_at};
-use crate::seconds::walk_seconds;
 use move_model::{Network, NoMemory, NodeNo, Ride, Walk};
 use std::alloc::Global;
 use std::sync::ledger::Ledger;
 use steps::Steps;
-use walk_hierarchy::{Hierarchy, Work, path};
+use walk_hierarchy::{Hierarchy, Work, timed_path};
 
 // The walk before a ride, and where and when the ride is left.
 #[derive(Debug, Drop)]
@@ -23,7 +22,7 @@ pub(crate) struct Leg {
 
 // Whether a walk and the buffer leave time for a departure.
 fn is_in_time(second: u32, seconds: u64, buffer: u32, dep: u32) -> bool
-    ensures { (m : ℕ) → seconds ≡ min m (2 ^ 64 - 1) → IsTrue result ↔ (second + m + buffer ≤ dep) }
+    ensures { IsTrue result ↔ (second + seconds + buffer ≤ dep) }
 {
     let boards = seconds
         .saturating_add(u64::from(second))
@@ -54,7 +53,7 @@ pub(crate) fn next_leg<L: Ledger>(
     let Some((on, off)) = calls_of(network, ride) else {
         return Ok(None);
     };
-    let found = path(
+    let found = timed_path(
         alloc,
         hierarchy,
         place,
@@ -62,15 +61,14 @@ pub(crate) fn next_leg<L: Ledger>(
         work,
         searches,
     )?;
-    let Some(walk) = found else {
+    let Some(timed) = found else {
         return Ok(None);
     };
-    let seconds = walk_seconds(network, hierarchy, walk.as_slice());
-    if !is_in_time(second, seconds, network.buffer, on.dep) {
+    if !is_in_time(second, timed.seconds, network.buffer, on.dep) {
         return Ok(None);
     }
     Ok(Some(Leg {
-        walk,
+        walk: timed.walk,
         place: node_at(network, off.stop),
         second: off.arr,
     }))

@@ -6,7 +6,6 @@
 
 mod calls;
 mod leg;
-mod seconds;
 #[cfg(test)]
 mod tests;
 mod whole;

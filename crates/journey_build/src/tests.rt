@@ -3,7 +3,7 @@
 ghost use Rattle.std.specs.Prelude.{◌≡◌, ◌≤◌, ◌<◌, ◌-◌, ◌^◌, All, IfOk, IsTrue, length};
 ghost use Rattle.move_model.specs.Network.{streets, IsNetwork};
 ghost use Rattle.walk_hierarchy.specs.Hierarchy.{IsNode, IsOver};
-ghost use Rattle.journey_build.specs.Pairs.{pair_streets, two_pairs};
+ghost use Rattle.walk_hierarchy.specs.Samples.{pairs_streets, pairs};
 
 use crate::build;
 use move_model::{
@@ -85,7 +85,7 @@ fn stops_of(alloc: Global) -> Result<Stops, NoMemory> {
 }
 
 fn network_of(alloc: Global) -> Result<Network, NoMemory>
-    ensures streets { IfOk result (λ network. streets network ≡ pair_streets) }
+    ensures streets { IfOk result (λ network. streets network ≡ pairs_streets) }
     ensures trips { IfOk result (λ network. length network.trips ≡ 2) }
     ensures calls { IfOk result (λ network. All (λ trip. length trip.calls < 2 ^ 32 - 1) network.trips) }
 {
@@ -109,8 +109,8 @@ fn network_of(alloc: Global) -> Result<Network, NoMemory>
 
 // Each vertex has its number less one for a rank.
 fn hierarchy_of(alloc: Global, network: &Network) -> Result<Hierarchy, NoMemory>
-    requires { streets network.now ≡ pair_streets }
-    ensures { IfOk result (λ hierarchy. hierarchy ≡ two_pairs) }
+    requires { streets network.now ≡ pairs_streets }
+    ensures { IfOk result (λ hierarchy. hierarchy ≡ pairs) }
 {
     let ranks = Ranks::from_slice(alloc, &[0, 1, 2, 3])?;
     let up = UpDowns::from_slice(alloc, &[arc(1, 4, 7200), arc(2, 3, 240)])?;
@@ -120,7 +120,7 @@ fn hierarchy_of(alloc: Global, network: &Network) -> Result<Hierarchy, NoMemory>
 
 // Whether the network keeps the rules.
 fn is_network(network: &Network) -> bool
-    requires streets { streets network.now ≡ pair_streets }
+    requires streets { streets network.now ≡ pairs_streets }
     requires trips { length network.now.trips ≡ 2 }
     requires calls { All (λ trip. length trip.calls < 2 ^ 32 - 1) network.now.trips }
     ensures { IsTrue result → IsNetwork network.now }
@@ -150,7 +150,7 @@ fn built<L: Ledger>(
     requires name { blank.name ≡ L.name }
     requires parts { blank.parts ≡ L.parts }
     requires some { 0 < blank.parts }
-    requires streets { streets network.now ≡ pair_streets }
+    requires streets { streets network.now ≡ pairs_streets }
     requires network { IsNetwork network.now }
     requires from_one { 1 ≤ to }
     requires to_four { to ≤ 4 }
@@ -187,7 +187,7 @@ fn journey(
     depart: u32,
     rides: &[Ride],
 ) -> Result<Option<Journey>, NoMemory>
-    requires streets { streets network.now ≡ pair_streets }
+    requires streets { streets network.now ≡ pairs_streets }
     requires network { IsNetwork network.now }
     requires from_one { 1 ≤ to }
     requires to_four { to ≤ 4 }
@@ -205,7 +205,7 @@ fn expect_two_rides(rt: &impl Abort, journey: &Journey) -> Result<(), Fail> {
 }
 
 fn expect_journeys(rt: &impl Abort, alloc: Global, network: &Network) -> Result<(), Fail>
-    requires streets { streets network.now ≡ pair_streets }
+    requires streets { streets network.now ≡ pairs_streets }
     requires network { IsNetwork network.now }
 {
     let both = [ride(0), ride(1)];

@@ -8,7 +8,7 @@ use Rattle.move_model.specs.declared.network.Arc.{Arc}
 use Rattle.move_model.specs.Streets.{IsLeastArc}
 use Rattle.walk_hierarchy.specs.declared.arcs.UpDown.{UpDown}
 use Rattle.walk_hierarchy.specs.Hierarchy.{Parts, IsNode, IsArcUp, IsArcDown, IsBefore, IsMade, IsHierarchy, IsLeastStreet, IsOver}
-use Rattle.walk_hierarchy.specs.Samples.{street, arc_by, line_streets, line}
+use Rattle.walk_hierarchy.specs.Samples.{street, arc_by, pairs_streets, pairs, line_streets, line}
 
 all_none : {A : Type 0} (P : A → Type 0) → All P []
 all_none P = λ k d lt. absurd (omega arith)
@@ -38,6 +38,26 @@ least_street : (arcs : List Arc) (p q seconds : ℕ) → Contains arcs (street p
 least_street arcs p q seconds stands all = record {
   attained = stands;
   least = λ m has. All-contains (IsNoLonger p q seconds) arcs (street p q m) all has refl refl;
+}
+
+-- two pairs
+
+pairs_least : (p q seconds : ℕ) → Contains pairs_streets.arcs (street p q seconds)
+    → IsNoLonger p q seconds (street 2 3 240) → IsNoLonger p q seconds (street 3 2 240) → IsNoLonger p q seconds (street 1 4 7200) → IsNoLonger p q seconds (street 4 1 7200)
+    → IsLeastArc pairs_streets.arcs (record { 0 = p }) (record { 0 = q }) seconds
+pairs_least p q seconds stands one two three four =
+    least_street pairs_streets.arcs p q seconds stands
+    (all_four (IsNoLonger p q seconds) (street 2 3 240) (street 3 2 240) (street 1 4 7200) (street 4 1 7200) one two three four)
+
+pub pairs_over : IsOver pairs_streets pairs
+pairs_over = record {
+  nodes = refl;
+  up = all_two (IsLeastStreet pairs_streets) (arc_by 1 4 7200 0) (arc_by 2 3 240 0)
+      (λ e. pairs_least 1 4 7200 (2, omega arith, refl) (λ f t. omega (arith, f)) (λ f t. omega (arith, f)) (λ f t. omega arith) (λ f t. omega (arith, f)))
+      (λ e. pairs_least 2 3 240 (0, omega arith, refl) (λ f t. omega arith) (λ f t. omega (arith, f)) (λ f t. omega (arith, f)) (λ f t. omega (arith, f)));
+  down = all_two (IsLeastStreet pairs_streets) (arc_by 3 2 240 0) (arc_by 4 1 7200 0)
+      (λ e. pairs_least 3 2 240 (1, omega arith, refl) (λ f t. omega (arith, f)) (λ f t. omega arith) (λ f t. omega (arith, f)) (λ f t. omega (arith, f)))
+      (λ e. pairs_least 4 1 7200 (3, omega arith, refl) (λ f t. omega (arith, f)) (λ f t. omega (arith, f)) (λ f t. omega (arith, f)) (λ f t. omega arith));
 }
 
 -- a line

@@ -1,43 +1,17 @@
 -- The steps of a sweep, by those of a search in which the same places wait.
-use Rattle.std.proofs.Common.{◌≡◌, ℕ, suc, zero, ◌+◌, ◌<◌, ◌≤◌, Bool, true, false, cond, List, [], ◌∷◌, length, slice_index_or, slice_set, replicate, Option, Some, None, arith, refl, sym, ap, subst, inl, inr, ◌∙◌}
-use Rattle.std.proofs.lemmas.List.{get_or_default, get_or-set_same, get_or-set_other, length-set, length-map, length-replicate, map-set, same_lists}
+use Rattle.std.proofs.Common.{◌≡◌, ℕ, suc, zero, ◌+◌, ◌<◌, ◌≤◌, Bool, true, false, cond, List, [], ◌∷◌, length, slice_index_or, slice_set, replicate, Option, Some, None, arith, refl, sym, ap, subst, ◌∙◌}
+use Rattle.std.proofs.lemmas.List.{length-set, length-map, length-replicate, map-set}
 use Rattle.std.proofs.lemmas.List.Sums.{sum_by-cons}
-use Rattle.std.proofs.lemmas.Bool.{cases_eq}
-use Rattle.std.specs.Bool.{OnTrue, OnFalse}
 use Rattle.std.specs.List.{sum_by}
-use Rattle.std.specs.declared.cmp.Ordering.TheVariants.{Equal}
 use Rattle.move_model.specs.declared.network.NodeNo.{NodeNo}
-use Rattle.walk_queue.specs.Keys.{key_at, improves, IsEmpty}
+use Rattle.walk_queue.specs.Keys.{key_at, IsEmpty}
 use Rattle.walk_hierarchy.specs.declared.labels.Label.{Label}
 use Rattle.walk_hierarchy.specs.declared.rows.Half.{Half}
 use Rattle.walk_hierarchy.specs.declared.rows.Rows.{Rows}
 use Rattle.walk_hierarchy.specs.Labels.{HasLabel, IsLeastFrom, lowers}
 use Rattle.walk_hierarchy.specs.Search.{row_of, HasHalf, Climbs, Waits, IsSearch, IsGoing, waiting as one_waiting, work_left, labels_with, queue_with}
 use Rattle.walk_hierarchy.specs.Sweep.{place_only, places_of, IsSweep, IsSweeping, waiting_with}
-use Rattle.walk_hierarchy.proofs.SearchLaws.{label_same, entry_low, some_or_none, IsMarked, marked, going_taken, going_more, search_left, search_first, least_from, near, IsNear}
-
--- the queue of a place that already waits stays as it is
-
-set_here : {A : Type 0} (xs : List (Option A)) (v : ℕ) (x : A) → key_at xs v ≡ Some x → xs ≡ slice_set xs v (Some x)
-set_here xs v x is =
-    let low : v < length xs = entry_low xs v x is in
-    same_lists xs (slice_set xs v (Some x)) (sym (length-set xs v (Some x)))
-    (λ k d lt. elim (cases_eq k v) [
-      | inl e ↦
-          let here : slice_index_or (slice_set xs v (Some x)) v d ≡ Some x = get_or-set_same xs v (Some x) d low in
-          let there : slice_index_or xs v d ≡ Some x = get_or_default xs v d None low ∙ is in
-          ap (λ (j : ℕ). slice_index_or xs j d) e ∙ there ∙ sym here ∙ sym (ap (λ (j : ℕ). slice_index_or (slice_set xs v (Some x)) j d) e)
-      | inr ne ↦ sym (get_or-set_other xs v k (Some x) d ne)
-    ])
-
-held_or_free : (held : Option (Unit {0})) → false ≡ improves (λ _ _. Equal) tt held → held ≡ Some tt
-held_or_free None e = absurd (cc)
-held_or_free (Some tt) e = refl
-
-pub waits_put : (before after : List (Option (Unit {0}))) (v : ℕ) (b : Bool) → b ≡ improves (λ _ _. Equal) tt (key_at before v)
-    → OnTrue b (after ≡ slice_set before v (Some tt)) → OnFalse b (after ≡ before) → after ≡ slice_set before v (Some tt)
-waits_put before after v true is put kept = put
-waits_put before after v false is put kept = kept ∙ set_here before v tt (held_or_free (key_at before v) is)
+use Rattle.walk_hierarchy.proofs.SearchLaws.{label_same, some_or_none, IsMarked, marked, going_taken, going_more, search_left, search_first, least_from, near, IsNear}
 
 -- what waits, with and without seconds
 

@@ -8,7 +8,7 @@
 //! - [`from_parts`] makes a hierarchy of ranks and arcs, and [`Hierarchy::ranks`], [`Hierarchy::up_arcs`] and
 //!   [`Hierarchy::down_arcs`] lend them.
 //! - [`Work::new`] takes the memory of all later searches.
-//! - [`distance`] gives the least sum, and [`path`] a walk along streets with these seconds.
+//! - [`distance`] gives the least sum, [`path`] a walk along streets with these seconds, and [`timed_path`] both.
 //! - [`search_up`] and [`search_down`] leave the least sums of arcs up from a vertex, and of arcs down to a vertex, for
 //!   [`Work::settled`] to lend.
 #![tactic(auto)]
@@ -32,6 +32,6 @@ pub use arcs::{Ranks, UpDown, UpDowns};
 pub use hierarchy::{Hierarchy, from_parts};
 pub use meeting::distance;
 pub use settled::Settled;
-pub use unfolding::path;
+pub use unfolding::{TimedWalk, path, timed_path};
 pub use up_down::{search_down, search_up};
 pub use work::Work;

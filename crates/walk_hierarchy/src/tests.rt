@@ -1,11 +1,11 @@
 // Small hierarchies with least sums, walks and settled vertices that were worked by hand.
-ghost use Rattle.std.specs.Prelude.{◌≡◌, ◌<◌, IfOk};
-ghost use Rattle.walk_hierarchy.specs.Hierarchy.{IsHierarchy, IsOver};
+ghost use Rattle.std.specs.Prelude.{◌≡◌, ◌<◌, IfOk, length};
+ghost use Rattle.walk_hierarchy.specs.Hierarchy.{IsHierarchy, IsNode, IsOver};
 ghost use Rattle.walk_hierarchy.specs.Samples.{pairs, line_streets, line};
 
 use super::{
-    Hierarchy, Ranks, Settled, UpDown, UpDowns, Work, distance, from_parts, path, search_down,
-    search_up,
+    Hierarchy, Ranks, Settled, UpDown, UpDowns, Work, distance, from_parts, search_down, search_up,
+    timed_path,
 };
 use move_model::{Arc, Arcs, List, Network, NoMemory, NodeNo, Stops, Trips, Walk};
 use std::alloc::Global;
@@ -111,60 +111,125 @@ fn by_vertex(alloc: Global, nodes: u32, settled: &[Settled]) -> Result<Vec<Optio
     Ok(all)
 }
 
+// What a hierarchy answers about two vertices.
 #[derive(Drop)]
 struct Answers {
-    seconds: Option<u64>,
-    // No vertex where there is no walk.
-    walk: Walk,
+    walked: Walked,
     up: Vec<Option<u64>>,
     down: Vec<Option<u64>>,
+}
+
+#[derive(Drop)]
+struct Walked {
+    seconds: Option<u64>,
+    // No vertex and no seconds where there is no walk.
+    walk: Walk,
+    timed: Option<u64>,
     // The entries that the least sum and the walk left.
     left: usize,
 }
 
-// Asks for the least sum and the walk between two vertices, up from the first and down to the other one.
-fn ask<L: Ledger>(
+// The least sum and the walk between two vertices.
+fn walk_between<L: Ledger>(
     alloc: Global,
-    sample: Sample,
-    from: u32,
-    to: u32,
+    hierarchy: &Hierarchy,
+    a: NodeNo,
+    b: NodeNo,
+    work: &mut Work,
+    searches: &mut Steps<L>,
+) -> Result<Walked, NoMemory>
+    requires a { IsNode hierarchy.now a }
+    requires b { IsNode hierarchy.now b }
+    requires fits { work.old.nodes ≡ length hierarchy.now.ranks }
+    ensures { work.new.nodes ≡ work.old.nodes }
+{
+    let seconds = distance(hierarchy, a, b, work, searches);
+    let left = work.settled().len();
+    let found = timed_path(alloc, hierarchy, a, b, work, searches)?;
+    let left = left.max(work.settled().len());
+    let (walk, timed) = match found {
+        Some(found) => (found.walk, Some(found.seconds)),
+        None => (List::new(alloc), None),
+    };
+    Ok(Walked {
+        seconds,
+        walk,
+        timed,
+        left,
+    })
+}
+
+// The least sums up from a vertex.
+fn sums_up<L: Ledger>(
+    alloc: Global,
+    hierarchy: &Hierarchy,
+    a: NodeNo,
+    work: &mut Work,
+    searches: &mut Steps<L>,
+) -> Result<Vec<Option<u64>>, NoMemory>
+    requires exists { IsNode hierarchy.now a }
+    requires fits { work.old.nodes ≡ length hierarchy.now.ranks }
+    ensures { work.new.nodes ≡ work.old.nodes }
+{
+    search_up(hierarchy, a, work, searches);
+    by_vertex(alloc, hierarchy.nodes(), work.settled())
+}
+
+// The least sums down to a vertex.
+fn sums_down<L: Ledger>(
+    alloc: Global,
+    hierarchy: &Hierarchy,
+    b: NodeNo,
+    work: &mut Work,
+    searches: &mut Steps<L>,
+) -> Result<Vec<Option<u64>>, NoMemory>
+    requires exists { IsNode hierarchy.now b }
+    requires fits { work.old.nodes ≡ length hierarchy.now.ranks }
+    ensures { work.new.nodes ≡ work.old.nodes }
+{
+    search_down(hierarchy, b, work, searches);
+    by_vertex(alloc, hierarchy.nodes(), work.settled())
+}
+
+// Asks for the walk between two vertices, and then for the sums up from the first and down to the other one.
+fn asked<L: Ledger>(
+    alloc: Global,
+    hierarchy: &Hierarchy,
+    a: NodeNo,
+    b: NodeNo,
+    work: &mut Work,
     blank: Blank,
-) -> Result<Option<Answers>, NoMemory>
+) -> Result<Answers, NoMemory>
     requires name { blank.name ≡ L.name }
     requires parts { blank.parts ≡ L.parts }
     requires some { 0 < blank.parts }
+    requires a { IsNode hierarchy.now a }
+    requires b { IsNode hierarchy.now b }
+    requires fits { work.old.nodes ≡ length hierarchy.now.ranks }
 {
-    let hierarchy = hierarchy_of(alloc, sample)?;
-    let nodes = hierarchy.nodes();
-    if from < 1 || nodes < from || to < 1 || nodes < to {
-        return Ok(None);
-    }
-    let (a, b) = (NodeNo(from), NodeNo(to));
-    let mut work = Work::new(alloc, &hierarchy)?;
     let mut searches = Steps::<L>::new(blank);
-    search_up(&hierarchy, a, &mut work, &mut searches);
-    let up = by_vertex(alloc, nodes, work.settled())?;
-    let seconds = distance(&hierarchy, a, b, &mut work, &mut searches);
-    let left = work.settled().len();
-    search_down(&hierarchy, b, &mut work, &mut searches);
-    let down = by_vertex(alloc, nodes, work.settled())?;
-    let walk = path(alloc, &hierarchy, a, b, &mut work, &mut searches)?;
-    Ok(Some(Answers {
-        seconds,
-        walk: walk.unwrap_or(List::new(alloc)),
-        up,
-        down,
-        left: left.max(work.settled().len()),
-    }))
+    let up = sums_up(alloc, hierarchy, a, work, &mut searches)?;
+    let walked = walk_between(alloc, hierarchy, a, b, work, &mut searches)?;
+    let down = sums_down(alloc, hierarchy, b, work, &mut searches)?;
+    Ok(Answers { walked, up, down })
 }
 
+// None where either of the vertices doesn't exist.
 fn answers_of(
     alloc: Global,
     sample: Sample,
     from: u32,
     to: u32,
 ) -> Result<Option<Answers>, NoMemory> {
-    ask::<Brand>(alloc, sample, from, to, Blank::new(1))
+    let hierarchy = hierarchy_of(alloc, sample)?;
+    let nodes = hierarchy.nodes();
+    if from < 1 || nodes < from || to < 1 || nodes < to {
+        return Ok(None);
+    }
+    let mut work = Work::new(alloc, &hierarchy)?;
+    let (a, b) = (NodeNo(from), NodeNo(to));
+    let answers = asked::<Brand>(alloc, &hierarchy, a, b, &mut work, Blank::new(1))?;
+    Ok(Some(answers))
 }
 
 // A sample, two vertices, the least sum between them and the vertices of a walk.
@@ -215,8 +280,9 @@ const SUMS: [SumsRow; 3] = [
 fn finds_walks(rt: HostRuntime) -> Result<(), Fail> {
     for (sample, from, to, seconds, walk) in WALKS {
         let found = answers_of(rt.alloc(), sample, from, to)?;
-        let found = found.ok_or("no such vertex")?;
+        let found = found.ok_or("no such vertex")?.walked;
         assert_eq!(rt; found.seconds, seconds, "{sample:?} from {from} to {to}");
+        assert_eq!(rt; found.timed, seconds, "{sample:?} from {from} to {to}");
         assert!(rt;
             found.walk.as_slice() == walk,
             "{sample:?} from {from} to {to}"

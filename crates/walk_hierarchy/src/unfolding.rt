@@ -1,6 +1,7 @@
 // Walks along the streets that the arcs of a hierarchy stand for.
 ghost use Rattle.std.specs.Prelude.{◌≡◌, ◌≢◌, ◌+◌, ◌-◌, ◌<◌, ◌≤◌, ◌↔◌, ◌⊎◌, ℕ, [], ◌∷◌, length, Contains, All, OnOk, IfOk, IfSome, IsNone, Option};
 ghost use Rattle.move_model.specs.Streets.{Streets};
+ghost use Rattle.walk_laws.specs.Sums.{IsLeast};
 ghost use Rattle.walk_hierarchy.specs.declared.labels.Label.{Label};
 ghost use Rattle.walk_hierarchy.specs.Labels.{HasLabel, AreSums, HasLeastLabel};
 ghost use Rattle.walk_hierarchy.specs.Hierarchy.{IsNode, HasArc, IsHierarchy, IsOver, IsUpDownSum, GivesDistances, IsWayOver, IsShortestWalk};
@@ -17,6 +18,13 @@ use move_model::{NoMemory, NodeNo, Walk};
 use std::alloc::Global;
 use std::sync::ledger::Ledger;
 use steps::Steps;
+
+/// A walk and its seconds.
+#[derive(Debug, Drop)]
+pub struct TimedWalk {
+    pub walk: Walk,
+    pub seconds: u64,
+}
 
 // The two arcs that an added arc stands for.
 fn parts(hierarchy: &Hierarchy, arc: UpDown) -> (UpDown, UpDown)
@@ -164,7 +172,7 @@ fn walk_of(
     names: &[u32],
     up: &Labels,
     down: &Labels,
-) -> Result<Option<Walk>, NoMemory>
+) -> Result<Option<TimedWalk>, NoMemory>
     requires rules { IsHierarchy hierarchy.now }
     requires names { AreNames hierarchy.now.ranks names.now }
     requires a { IsNode hierarchy.now a }
@@ -172,15 +180,59 @@ fn walk_of(
     requires up { AreSums (HasArc hierarchy.now.up) a.0 (by_vertex hierarchy.now.ranks names.now up.now) }
     requires down { AreSums (IsArcBack hierarchy.now.down) b.0 (by_vertex hierarchy.now.ranks names.now down.now) }
     requires best { HasBest (HasArc hierarchy.now.up) (IsArcBack hierarchy.now.down) a.0 b.0 (by_vertex hierarchy.now.ranks names.now up.now) (by_vertex hierarchy.now.ranks names.now down.now) meeting }
-    ensures none { IfOk result (λ walk. IsNone walk ↔ ((m : ℕ) → IsUpDownSum hierarchy.now a b m → ⊥)) }
-    ensures walks { IfOk result (λ found. IfSome found (λ walk. (graph : Streets) → IsOver graph hierarchy.now → IsWayOver graph hierarchy.now a b walk)) }
-    ensures shortest { IfOk result (λ found. IfSome found (λ walk. (graph : Streets) → IsOver graph hierarchy.now → GivesDistances graph hierarchy.now → IsShortestWalk graph a b walk)) }
+    ensures none { IfOk result (λ found. IsNone found ↔ ((m : ℕ) → IsUpDownSum hierarchy.now a b m → ⊥)) }
+    ensures seconds { IfOk result (λ found. IfSome found (λ timed. IsLeast (IsUpDownSum hierarchy.now a b) timed.seconds)) }
+    ensures walks { IfOk result (λ found. IfSome found (λ timed. (graph : Streets) → IsOver graph hierarchy.now → IsWayOver graph hierarchy.now a b timed.walk)) }
+    ensures shortest { IfOk result (λ found. IfSome found (λ timed. (graph : Streets) → IsOver graph hierarchy.now → GivesDistances graph hierarchy.now → IsShortestWalk graph a b timed.walk)) }
 {
     let Some(meeting) = meeting else {
         return Ok(None);
     };
     let walk = walk_by(alloc, hierarchy, a, b, meeting.node, names, up, down)?;
-    Ok(Some(walk))
+    Ok(Some(TimedWalk {
+        walk,
+        seconds: meeting.seconds,
+    }))
+}
+
+/// A walk along streets that has the least seconds of arcs up from one vertex and then arcs down to the other, with these
+/// seconds, or None where no such arcs lead there. For a hierarchy that keeps the distances of its streets, it has those of
+/// the distance.
+pub fn timed_path<L: Ledger>(
+    alloc: Global,
+    hierarchy: &Hierarchy,
+    a: NodeNo,
+    b: NodeNo,
+    work: &mut Work,
+    searches: &mut Steps<L>,
+) -> Result<Option<TimedWalk>, NoMemory>
+    requires a_exists { IsNode hierarchy.now a }
+    requires b_exists { IsNode hierarchy.now b }
+    requires fits { work.old.nodes ≡ length hierarchy.now.ranks }
+    ensures none { IfOk result (λ found. IsNone found ↔ ((m : ℕ) → IsUpDownSum hierarchy.now a b m → ⊥)) }
+    ensures seconds { IfOk result (λ found. IfSome found (λ timed. IsLeast (IsUpDownSum hierarchy.now a b) timed.seconds)) }
+    ensures walks { IfOk result (λ found. IfSome found (λ timed. (graph : Streets) → IsOver graph hierarchy.now → IsWayOver graph hierarchy.now a b timed.walk)) }
+    ensures shortest { IfOk result (λ found. IfSome found (λ timed. (graph : Streets) → IsOver graph hierarchy.now → GivesDistances graph hierarchy.now → IsShortestWalk graph a b timed.walk)) }
+    ensures work { work.new ≡ record { nodes = work.old.nodes; settled = [] } }
+    ensures ticks { searches.new ≡ searches.old + 1 }
+{
+    searches.tick();
+    let names = hierarchy.names();
+    let meeting = meet(
+        hierarchy,
+        names,
+        a,
+        b,
+        &mut work.up,
+        &mut work.up_queue,
+        &mut work.down,
+        &mut work.down_queue,
+    );
+    let found = walk_of(alloc, hierarchy, a, b, meeting, names, &work.up, &work.down);
+    work.up.clear();
+    work.down.clear();
+    work.settled.clear();
+    found
 }
 
 /// A walk along streets that has the least seconds of arcs up from one vertex and then arcs down to the other, or None
@@ -202,21 +254,8 @@ pub fn path<L: Ledger>(
     ensures work { work.new ≡ record { nodes = work.old.nodes; settled = [] } }
     ensures ticks { searches.new ≡ searches.old + 1 }
 {
-    searches.tick();
-    let names = hierarchy.names();
-    let meeting = meet(
-        hierarchy,
-        names,
-        a,
-        b,
-        &mut work.up,
-        &mut work.up_queue,
-        &mut work.down,
-        &mut work.down_queue,
-    );
-    let found = walk_of(alloc, hierarchy, a, b, meeting, names, &work.up, &work.down);
-    work.up.clear();
-    work.down.clear();
-    work.settled.clear();
-    found
+    match timed_path(alloc, hierarchy, a, b, work, searches)? {
+        Some(timed) => Ok(Some(timed.walk)),
+        None => Ok(None),
+    }
 }

@@ -1,13 +1,13 @@
-use Rattle.std.proofs.Common.{◌≡◌, ◌+◌, ◌<◌, ◌≤◌, ◌⊎◌, ◌↔◌, ℕ, List, Option, Some, None, min, refl, sym, ap, subst, inl, inr, arith, rules}
-use Rattle.std.specs.Prelude.{IsNone, IsTrue}
+use Rattle.std.proofs.Common.{◌≡◌, ◌+◌, ◌≤◌, ℕ, refl, sym, subst, inl, inr, arith, rules}
+use Rattle.std.specs.Prelude.{IsTrue}
 use Rattle.std.proofs.lemmas.Bool.{cases_lt}
 use Rattle.move_model.specs.declared.network.NodeNo.{NodeNo}
-use Rattle.move_model.specs.Streets.{Streets, IsWalk}
+use Rattle.move_model.specs.Streets.{Streets}
 use Rattle.move_model.specs.Network.{streets, node_of}
 use Rattle.move_model.specs.Journey.{IsRide}
 use Rattle.walk_laws.specs.Sums.{IsLeast}
 use Rattle.walk_hierarchy.specs.Hierarchy.{IsNode, IsOver, IsUpDownSum, IsWayOver}
-use Rattle.journey_build.specs.Built.IsMissed.{no_ride, no_way, too_late}
+use Rattle.journey_build.specs.Built.IsMissed.{no_way, too_late}
 use Rattle.journey_build.proofs.StopLemmas.{off_node}
 use Rattle.journey_build.proofs.leg.next_leg.Goals as goal
 
@@ -23,30 +23,31 @@ pub returns-then-not-is_in_time-clause-missed : goal.returns-then-not-is_in_time
 returns-then-not-is_in_time-clause-missed g c =
     let n = c.args.network.now in
     let h = c.args.hierarchy.now in
+    let timed = c.in-Some-found.timed in
     let is : IsRide n c.args.ride c.in-Some.on c.in-Some.off = search rules in
-    let ways : (graph : Streets) → IsOver graph h → IsWayOver graph h c.args.place c.node_at.result c.in-Some-found.walk = rw c.in-Some-found.is at c.in_ok-found.ensures.walks in
-    let way : IsWayOver (streets n) h c.args.place (node_of n c.in-Some.on.stop) c.in-Some-found.walk =
-    subst (λ (v : NodeNo). IsWayOver (streets n) h c.args.place v c.in-Some-found.walk) c.node_at.ensures (ways (streets n) c.requires.over) in
-    let lent : IsWalk (streets n) c.args.place c.as_slice.result.now (node_of n c.in-Some.on.stop) way.seconds =
-    subst (λ (vs : List NodeNo). IsWalk (streets n) c.args.place vs (node_of n c.in-Some.on.stop) way.seconds) (sym c.as_slice.ensures) way.walks in
-    let tested = c.is_in_time.ensures way.seconds (c.walk_seconds-seconds.ensures c.args.place (node_of n c.in-Some.on.stop) way.seconds lent) in
-    too_late is way.least (elim (cases_lt c.in-Some.on.dep (c.args.second + way.seconds + n.buffer)) [
+    let found : IsLeast (IsUpDownSum h c.args.place c.node_at.result) timed.seconds = rw c.in-Some-found.is at c.in_ok-found.ensures.seconds in
+    let least : IsLeast (IsUpDownSum h c.args.place (node_of n c.in-Some.on.stop)) timed.seconds =
+    subst (λ (v : NodeNo). IsLeast (IsUpDownSum h c.args.place v) timed.seconds) c.node_at.ensures found in
+    too_late is least (elim (cases_lt c.in-Some.on.dep (c.args.second + timed.seconds + n.buffer)) [
       | inl late ↦ late
-      | inr le ↦ let yes : IsTrue c.is_in_time.result = tested.1 le in absurd (search (rules, yes))
+      | inr le ↦ let yes : IsTrue c.is_in_time.result = c.is_in_time.ensures.1 le in absurd (search (rules, yes))
     ])
 
 pub returns-clause-leg : goal.returns-clause-leg
 returns-clause-leg g c =
     let n = c.args.network.now in
     let h = c.args.hierarchy.now in
+    let timed = c.in-Some-found.timed in
     let is : IsRide n c.args.ride c.in-Some.on c.in-Some.off = search rules in
-    let ways : (graph : Streets) → IsOver graph h → IsWayOver graph h c.args.place c.node_at.result c.in-Some-found.walk = rw c.in-Some-found.is at c.in_ok-found.ensures.walks in
-    let way : IsWayOver (streets n) h c.args.place (node_of n c.in-Some.on.stop) c.in-Some-found.walk =
-    subst (λ (v : NodeNo). IsWayOver (streets n) h c.args.place v c.in-Some-found.walk) c.node_at.ensures (ways (streets n) c.requires.over) in
-    let lent : IsWalk (streets n) c.args.place c.as_slice.result.now (node_of n c.in-Some.on.stop) way.seconds =
-    subst (λ (vs : List NodeNo). IsWalk (streets n) c.args.place vs (node_of n c.in-Some.on.stop) way.seconds) (sym c.as_slice.ensures) way.walks in
-    let tested = c.is_in_time.ensures way.seconds (c.walk_seconds-seconds.ensures c.args.place (node_of n c.in-Some.on.stop) way.seconds lent) in
+    let ways : (graph : Streets) → IsOver graph h → IsWayOver graph h c.args.place c.node_at.result timed.walk = rw c.in-Some-found.is at c.in_ok-found.ensures.walks in
+    let way : IsWayOver (streets n) h c.args.place (node_of n c.in-Some.on.stop) timed.walk =
+    subst (λ (v : NodeNo). IsWayOver (streets n) h c.args.place v timed.walk) c.node_at.ensures (ways (streets n) c.requires.over) in
+    let found : IsLeast (IsUpDownSum h c.args.place c.node_at.result) timed.seconds = rw c.in-Some-found.is at c.in_ok-found.ensures.seconds in
+    let least : IsLeast (IsUpDownSum h c.args.place (node_of n c.in-Some.on.stop)) timed.seconds =
+    subst (λ (v : NodeNo). IsLeast (IsUpDownSum h c.args.place v) timed.seconds) c.node_at.ensures found in
+    let same : way.seconds ≡ timed.seconds = omega (arith, way.least.least timed.seconds least.attained, least.least way.seconds way.least.attained) in
     let yes : IsTrue c.is_in_time.result = search rules in
+    let in_time : c.args.second + timed.seconds + n.buffer ≤ c.in-Some.on.dep = c.is_in_time.ensures.0 yes in
     record {
       on = c.in-Some.on;
       off = c.in-Some.off;
@@ -54,7 +55,7 @@ returns-clause-leg g c =
       is_ride = is;
       walks = way.walks;
       way = record { from = c.args.place; to = node_of n c.in-Some.on.stop; way = way };
-      in_time = tested.0 yes;
+      in_time = omega (arith, same, in_time);
       place = c.node_at-2.ensures;
       second = refl;
       exists = subst (IsNode h) (sym c.node_at-2.ensures) (off_node n h c.requires.over c.requires.network c.args.ride c.in-Some.on c.in-Some.off is);

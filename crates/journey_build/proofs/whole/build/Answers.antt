@@ -1,4 +1,4 @@
-use Rattle.std.proofs.Common.{◌≡◌, ◌≢◌, ◌∙◌, ◌+◌, ◌<◌, ◌≤◌, ℕ, List, [], ◌∷◌, ◌++◌, Option, Some, None, false, true, length, get_or, slice_index_or, refl, sym, ap, subst, arith, rules}
+use Rattle.std.proofs.Common.{◌≡◌, ◌∙◌, ◌+◌, ◌<◌, ◌≤◌, ℕ, List, Option, Some, None, length, get_or, slice_index_or, refl, sym, ap, subst, arith, rules}
 use Rattle.std.specs.Prelude.{IsNone, IfNone}
 use Rattle.std.proofs.lemmas.List.{get_or_default}
 use Rattle.move_model.specs.declared.network.NodeNo.{NodeNo}

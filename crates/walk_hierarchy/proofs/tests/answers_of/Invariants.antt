@@ -1,4 +1,4 @@
 use Rattle.walk_hierarchy.proofs.tests.answers_of.Given as goal
 
-abbrev pub ghosts-ask : goal.ghosts-ask
-ghosts-ask a = record { name = a.blank.name; parts = a.blank.parts }
+abbrev pub ghosts-asked : goal.ghosts-asked
+ghosts-asked a = record { name = a.blank.name; parts = a.blank.parts }

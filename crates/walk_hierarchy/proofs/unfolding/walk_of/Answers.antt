@@ -48,6 +48,16 @@ returns-clause-none c =
     let least : IsLeast (IsUpDownSum h c.args.a c.args.b) meeting.seconds = least_sum h c.args.a c.args.b up down (Some meeting) best in
     (λ e. absurd (true_not_false e), λ f. absurd (f meeting.seconds least.attained))
 
+pub returns-clause-seconds : goal.returns-clause-seconds
+returns-clause-seconds c =
+    let h = c.args.hierarchy.now in
+    let up : List (Option Label) = by_vertex c.args.hierarchy.now.ranks c.args.names.now c.args.up.now in
+    let down : List (Option Label) = by_vertex c.args.hierarchy.now.ranks c.args.names.now c.args.down.now in
+    let meeting = c.in-Some.meeting in
+    let best : IsBest (HasArc h.up) (IsArcBack h.down) c.args.a.0 c.args.b.0 up down meeting =
+    subst (λ (r : Option Meeting). HasBest (HasArc h.up) (IsArcBack h.down) c.args.a.0 c.args.b.0 up down r) c.in-Some.is c.requires.best in
+    least_sum h c.args.a c.args.b up down (Some meeting) best
+
 pub returns-clause-walks : goal.returns-clause-walks
 returns-clause-walks c = λ graph over.
     let h = c.args.hierarchy.now in
