@@ -19,8 +19,6 @@ mod index;
 mod scan;
 mod slim;
 mod starts;
-#[cfg(test)]
-mod tests;
 mod twins;
 
 pub use bucket::{Bucket, BucketList};

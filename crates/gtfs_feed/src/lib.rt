@@ -18,6 +18,3 @@ pub use feed::{
     Services,
 };
 pub use read::read_feed;
-
-#[cfg(test)]
-mod tests;

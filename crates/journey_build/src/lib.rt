@@ -6,8 +6,6 @@
 
 mod calls;
 mod leg;
-#[cfg(test)]
-mod tests;
 mod whole;
 
 pub use whole::build;

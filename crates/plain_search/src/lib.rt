@@ -7,8 +7,6 @@
 mod answer;
 mod rides;
 mod rounds;
-#[cfg(test)]
-mod tests;
 mod walks;
 mod way;
 

@@ -12,6 +12,3 @@ mod row;
 mod stops;
 
 pub use read::read_queries;
-
-#[cfg(test)]
-mod tests;

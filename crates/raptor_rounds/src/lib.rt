@@ -22,8 +22,8 @@ mod scan;
 mod sparse_row;
 mod sparse_set;
 mod starts;
-#[cfg(test)]
-mod tests;
 mod turns;
 
+pub use entries::{Spans as EntrySpans, entries_of, new_spans, span_list};
 pub use rounds::Rounds;
+pub use sparse_set::SparseSet;

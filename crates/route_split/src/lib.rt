@@ -16,8 +16,6 @@ mod marks;
 mod partition;
 mod place;
 mod rows;
-#[cfg(test)]
-mod tests;
 mod timetable;
 
 pub use marks::RoundMarks;

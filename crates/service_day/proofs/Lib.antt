@@ -4,8 +4,7 @@ mod OrderLemmas
 mod NightLemmas
 mod StartLemmas
 mod RowLemmas
-mod GatherLemmas
+pub mod GatherLemmas
 mod BoundLemmas
 mod NumberLemmas
 mod ValidLemmas
-mod KeptLemmas

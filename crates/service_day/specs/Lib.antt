@@ -4,4 +4,3 @@ pub mod Order
 pub mod DayTrips
 pub mod Shift
 pub mod Departure
-pub mod Kept

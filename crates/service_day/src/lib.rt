@@ -15,6 +15,3 @@ mod shift;
 
 pub use day_trips::expand;
 pub use running::{ServiceSet, active, active_before};
-
-#[cfg(test)]
-mod tests;

@@ -11,7 +11,5 @@ mod grid;
 mod level;
 mod order;
 mod target;
-#[cfg(test)]
-mod tests;
 
 pub use grid::{Grid, nearest};

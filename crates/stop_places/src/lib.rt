@@ -13,8 +13,6 @@ mod near;
 mod place;
 mod row;
 mod table;
-#[cfg(test)]
-mod tests;
 
 pub use near::Near;
 pub use place::place_stops;

@@ -8,8 +8,6 @@ mod graph;
 mod number;
 mod point;
 mod rows;
-#[cfg(test)]
-mod tests;
 mod text;
 
 pub use co::read_co;

@@ -16,6 +16,3 @@ pub use csv::ByteRecord;
 pub use names::Names;
 pub use rows::{Rows, Table, count_rows, open_table, rows_above};
 pub use value::{check_id, read_number, read_number_within, read_second};
-
-#[cfg(test)]
-mod tests;

@@ -19,8 +19,6 @@ mod rows;
 mod search;
 mod state;
 mod streets;
-#[cfg(test)]
-mod tests;
 mod whole;
 
 pub use core_graph::Core;

@@ -6,4 +6,3 @@ pub mod HalfLaws
 pub mod LabelLaws
 pub mod MeetLaws
 pub mod UnfoldLaws
-pub mod SampleRules

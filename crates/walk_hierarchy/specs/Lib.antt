@@ -9,4 +9,3 @@ pub mod Search
 pub mod Sweep
 pub mod Meeting
 pub mod Unfolding
-pub mod Samples

@@ -22,8 +22,6 @@ mod rows;
 mod search;
 mod settled;
 mod sweep;
-#[cfg(test)]
-mod tests;
 mod unfolding;
 mod up_down;
 mod work;

@@ -7,8 +7,6 @@
 #![tactic(auto)]
 
 mod arcs;
-#[cfg(test)]
-mod tests;
 mod whole;
 
 pub use walk_hierarchy::{

@@ -1,4 +1,0 @@
-use Rattle.route_split.proofs.tests.members.Given as goal
-
-abbrev pub ghosts-opened : goal.ghosts-opened
-ghosts-opened a = record { name = a.opens.name; parts = a.opens.parts }
