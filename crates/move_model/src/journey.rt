@@ -78,8 +78,20 @@ pub struct Span {
     pub rides: RideList,
 }
 
-/// The spans of a range.
+/// The spans of a range, by rising first second and then trips.
 pub type Spans = List<Span>;
+
+/// The departure seconds from first to last at which the finding's pair is best, with a journey
+/// that leaves at the last of them.
+#[derive(Debug, Drop)]
+pub struct SpanFinding {
+    pub first: u32,
+    pub last: u32,
+    pub finding: Finding,
+}
+
+/// The spans of a range with their journeys, by rising first second and then trips.
+pub type SpanFindings = List<SpanFinding>;
 
 /// The answer to a range: the seconds on foot, where there is a walk, and the spans.
 #[derive(Debug, Drop)]

@@ -14,7 +14,7 @@ mod walk_row;
 pub use check::NetFault;
 pub use journey::{
     Finding, Findings, Journey, Key, Pair, Profile, Ride, RideList, Seconds, Shortcut, Shortcuts,
-    Span, Spans, Walk, Walks,
+    Span, SpanFinding, SpanFindings, Spans, Walk, Walks,
 };
 pub use list::List;
 pub use network::{

@@ -15,3 +15,5 @@ pub mod Earliest
 pub mod ParetoByRides
 pub mod Unique
 pub mod JourneyLegs
+pub mod RangeByListed
+pub mod RangeUnique

@@ -6,7 +6,7 @@ use Rattle.move_model.specs.declared.network.NodeNo.{NodeNo}
 use Rattle.move_model.specs.declared.journey.Pair.{Pair}
 use Rattle.move_model.specs.Journey.{HasPair, IsNoWorse, IsBest, HasArrival, IsStep}
 
-pair_eq : (p q : Pair) → p.arrive ≡ q.arrive → p.trips ≡ q.trips → p ≡ q
+pub pair_eq : (p q : Pair) → p.arrive ≡ q.arrive → p.trips ≡ q.trips → p ≡ q
 pair_eq p q e f = λ i. record { arrive = e i; trips = f i }
 
 module _ (n : Network) (s : NodeNo) (d : ℕ) (t : NodeNo) where

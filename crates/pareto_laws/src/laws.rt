@@ -3,12 +3,14 @@ ghost use Rattle.std.specs.Prelude.{◌≡◌, ◌<◌, ◌≤◌, ◌+◌, ◌*
 ghost use Rattle.move_model.specs.declared.network.Network.{Network};
 ghost use Rattle.move_model.specs.declared.network.NodeNo.{NodeNo};
 ghost use Rattle.move_model.specs.declared.journey.Pair.{Pair};
+ghost use Rattle.move_model.specs.declared.journey.Profile.{Profile};
 ghost use Rattle.move_model.specs.declared.journey.Shortcut.{Shortcut};
 ghost use Rattle.move_model.specs.Streets.{Streets, IsStreets, IsDistance, HasDistance};
 ghost use Rattle.move_model.specs.Network.{IsNetwork, streets};
 ghost use Rattle.move_model.specs.Journey.{IsBest, IsParetoList, IsStep, HasEarliest};
 ghost use Rattle.move_model.specs.Shortcut.{IsShortcutList, Suffices};
 ghost use Rattle.move_model.specs.Listed.{HoldsFirst, HoldsLast, ListedSuffice, HasBest, earlier};
+ghost use Rattle.move_model.specs.Range.{IsRange, IsListedRange, outline};
 ghost use Rattle.pareto_laws.specs.TransferList.{HoldsDistances, IsAllPairs};
 
 /// The list of all shortcuts of a network suffices: for every journey there is one between the
@@ -51,6 +53,17 @@ pub fn earliest_by_listed()
         → HasEarliest n s d t k (earlier d foot best) }
 {}
 
+/// Over such rows and such a list, and with the distance on foot, the answer to a range that is made
+/// of listed journeys is the answer of all journeys.
+pub fn range_by_listed()
+    ensures { (n : Network) (list : List Shortcut) (s t : NodeNo) (first_row last_row : List (Option ℕ))
+        (foot : Option ℕ) (limit first last : ℕ) (profile : Profile)
+        → IsNetwork n → Suffices n list → HoldsDistances n list
+        → HoldsFirst n s first_row → HoldsLast n t last_row → HasDistance (streets n) s t foot
+        → IsListedRange n first_row last_row list foot limit first last profile
+        → IsRange n s t limit first last profile }
+{}
+
 /// The pairs of the Pareto set are the least arrivals that no fewer rides give.
 pub fn pareto_by_rides()
     ensures { (n : Network) (s : NodeNo) (d : ℕ) (t : NodeNo) (limit : ℕ) (pair : Pair)
@@ -69,11 +82,17 @@ pub fn distance_bound()
         → (a b : NodeNo) (m : ℕ) → IsDistance g a b m → m < 2000000000000 }
 {}
 
-/// A network has one list of shortcuts at most, and a source, departure second, target and limit
-/// have one list of Pareto pairs at most.
+/// A network has one list of shortcuts at most; a source, departure second, target and limit have
+/// one list of Pareto pairs at most; and a range has one answer at most, but for the rides.
 pub fn uniqueness()
     ensures shortcuts { (n : Network) (xs ys : List Shortcut)
         → IsShortcutList n xs → IsShortcutList n ys → xs ≡ ys }
     ensures pairs { (n : Network) (s : NodeNo) (d : ℕ) (t : NodeNo) (limit : ℕ) (xs ys : List Pair)
         → IsParetoList n s d t limit xs → IsParetoList n s d t limit ys → xs ≡ ys }
+    ensures ranges { (n : Network) (s t : NodeNo) (limit first last : ℕ) (p q : Profile)
+        → IsRange n s t limit first last p → IsRange n s t limit first last q → outline p ≡ outline q }
+    ensures listed_ranges { (n : Network) (list : List Shortcut) (first_row last_row : List (Option ℕ))
+        (foot : Option ℕ) (limit first last : ℕ) (p q : Profile)
+        → IsListedRange n first_row last_row list foot limit first last p
+        → IsListedRange n first_row last_row list foot limit first last q → outline p ≡ outline q }
 {}
