@@ -14,7 +14,7 @@ use Rattle.move_files.specs.Outside.{SendsPrefix}
 use Rattle.journey_print.specs.declared.answer.PointAnswer.{PointAnswer}
 use Rattle.journey_print.specs.Legs.{IsPrintable}
 use Rattle.journey_print.specs.Records.{header_record, point_records, record_text, records_text}
-use Rattle.plan_core.specs.Answer.{AreRows, AreRowsFrom, PrintsAll, PrintsPart, Grows}
+use Rattle.plan_core.specs.Answer.{AreRows, AreRowsFrom, PrintsAll, PrintsPart}
 use Rattle.plan_core.specs.Answer.AreRowsFrom.{none, next}
 use Rattle.plan_core.specs.Sent.{SendsQuery, SendsPartOfQuery, SendsQueries, SendsFirst}
 
@@ -48,9 +48,6 @@ rows_more {n} {number} query rows at (next {query = first} {queries = queries} b
 pub prefix_behind : (old first mid rest new : List ℕ) → mid ≡ old ++ first → SendsPrefix mid rest new → SendsPrefix old (first ++ rest) new
 prefix_behind old first mid rest new there (k, is) =
     (length first + k, is ∙ (ap (λ ws. ws ++ take k rest) there ∙ (append_assoc old first (take k rest) ∙ ap (λ ws. old ++ ws) (sym (take-append-add first rest k)))))
-
-pub grows_on : (old mid new : List ℕ) → Grows old mid → Grows mid new → Grows old new
-grows_on old mid new (first, there) (more, is) = (first ++ more, is ∙ (ap (λ ws. ws ++ more) there ∙ append_assoc old first more))
 
 whole_prefix : (old bytes new : List ℕ) → new ≡ old ++ bytes → SendsPrefix old bytes new
 whole_prefix old bytes new is = (length bytes, is ∙ ap (λ ws. old ++ ws) (sym (take_all (length bytes) bytes (omega arith))))

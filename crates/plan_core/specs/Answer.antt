@@ -4,10 +4,7 @@
 --     IsPrinted n queries text         the text of the header and of the rows of all queries, in their order
 --     PrintsAll n queries old new      behind the old bytes stands such a text
 --     PrintsPart n queries old new     behind the old bytes stands a prefix of such a text for the first queries
---     Grows old new                    behind the old bytes stand further ones, or none
---     SendsRows old new                behind the old bytes stand the header row and further bytes, or none
---     SendsPartOfRows old new          that, or no more than a part of the header row
-use Rattle.std.specs.Prelude.{◌≡◌, ◌+◌, ◌++◌, ◌⊎◌, ℕ, List, [], ◌∷◌, take}
+use Rattle.std.specs.Prelude.{◌≡◌, ◌+◌, ◌++◌, ℕ, List, [], ◌∷◌, take}
 use Rattle.move_model.specs.declared.network.Network.{Network}
 use Rattle.move_model.specs.declared.journey.Finding.{Finding}
 use Rattle.move_model.specs.declared.query.Query.{Query}
@@ -46,12 +43,3 @@ pub record PrintsPart (n : Network) (queries : List Query) (old new : List ℕ) 
   pub text : List ℕ
   pub printed : IsPrinted n (take many queries) text
   pub sent : SendsPrefix old text new
-
-abbrev pub Grows : List ℕ → List ℕ → Type 0
-Grows old new = (more : List ℕ) × (new ≡ old ++ more)
-
-abbrev pub SendsRows : List ℕ → List ℕ → Type 0
-SendsRows old new = Grows (old ++ record_text header_record) new
-
-abbrev pub SendsPartOfRows : List ℕ → List ℕ → Type 0
-SendsPartOfRows old new = SendsRows old new ⊎ SendsPrefix old (record_text header_record) new

@@ -1,12 +1,13 @@
 // Answers to queries.
 ghost use Rattle.std.specs.Prelude.{◌≡◌, ◌++◌, ◌<◌, ◌≤◌, ◌-◌, ◌^◌, ◌↔◌, All, length, IfOk, OnOk, OnErr, IsErrOf};
+ghost use Rattle.move_model.specs.Check.{KeepsRules};
 ghost use Rattle.move_model.specs.Network.{IsNetwork, IsNumbered};
 ghost use Rattle.move_model.specs.Found.{IsPointAnswer};
 ghost use Rattle.move_files.specs.Outside.{Rose, SendsPrefix};
 ghost use Rattle.journey_print.specs.Legs.{IsPrintable};
 ghost use Rattle.journey_print.specs.Records.{point_records, records_text};
-ghost use Rattle.query_table.specs.Queries.{IsAt};
-ghost use Rattle.plan_core.specs.Answer.{PrintsAll, PrintsPart, Grows, SendsRows, SendsPartOfRows};
+ghost use Rattle.query_table.specs.Queries.{IsAt, IsQuery};
+ghost use Rattle.plan_core.specs.Answer.{PrintsAll, PrintsPart};
 ghost use Rattle.plan_core.specs.Sent.{SendsQuery, SendsPartOfQuery, SendsQueries, SendsFirst};
 
 use crate::Compiled;
@@ -44,9 +45,10 @@ fn answer_point(
     depart: u32,
     limit: u8,
 ) -> Result<PointAnswer, NoMemory>
+    requires network { IsNetwork network.now }
+    requires numbered { IsNumbered network.now }
     ensures asked { IfOk result (λ answer. answer ≡ record { from = from.now; to = to.now; depart = depart; found = answer.found }) }
-    ensures found { IfOk result (λ answer. IsNetwork network.now → IsNumbered network.now
-        → IsPointAnswer network.now from.now.node depart to.now.node limit answer.found) }
+    ensures found { IfOk result (λ answer. IsPointAnswer network.now from.now.node depart to.now.node limit answer.found) }
 {
     let found = point_findings(alloc, network, from.node, to.node, depart, limit)?;
     Ok(PointAnswer {
@@ -75,11 +77,9 @@ fn send_rows<S: Sink>(
     answer: &PointAnswer,
     out: &mut S,
 ) -> Result<(), AnswerStop>
-    ensures ok { S.tells → All (IsPrintable network.now) answer.now.found
-        → OnOk result (S.sent out.new ≡ S.sent out.old ++ records_text (point_records number network.now answer.now answer.now.found)) }
-    ensures err { S.tells → All (IsPrintable network.now) answer.now.found
-        → OnErr result (SendsPrefix (S.sent out.old) (records_text (point_records number network.now answer.now answer.now.found)) (S.sent out.new)) }
-    ensures grows { S.tells → Grows (S.sent out.old) (S.sent out.new) }
+    requires { All (IsPrintable network.now) answer.now.found }
+    ensures ok { S.tells → OnOk result (S.sent out.new ≡ S.sent out.old ++ records_text (point_records number network.now answer.now answer.now.found)) }
+    ensures err { S.tells → OnErr result (SendsPrefix (S.sent out.old) (records_text (point_records number network.now answer.now answer.now.found)) (S.sent out.new)) }
     ensures fault { IsErrOf result AnswerStop.WriteFault → Rose (S.faults out.old) (S.faults out.new) }
     ensures counts { (S.faults out.old ≤ S.faults out.new) × (S.wants out.old ≤ S.wants out.new) }
 {
@@ -97,11 +97,11 @@ fn send_answer<S: Sink>(
     query: &Query,
     out: &mut S,
 ) -> Result<(), AnswerStop>
-    ensures ok { S.tells → IsNetwork network.now → IsNumbered network.now → IsAt query.now
-        → OnOk result (SendsQuery network.now number query.now (S.sent out.old) (S.sent out.new)) }
-    ensures err { S.tells → IsNetwork network.now → IsNumbered network.now → IsAt query.now
-        → OnErr result (SendsPartOfQuery network.now number query.now (S.sent out.old) (S.sent out.new)) }
-    ensures grows { S.tells → Grows (S.sent out.old) (S.sent out.new) }
+    requires network { IsNetwork network.now }
+    requires numbered { IsNumbered network.now }
+    requires at { IsAt query.now }
+    ensures ok { S.tells → OnOk result (SendsQuery network.now number query.now (S.sent out.old) (S.sent out.new)) }
+    ensures err { S.tells → OnErr result (SendsPartOfQuery network.now number query.now (S.sent out.old) (S.sent out.new)) }
     ensures fault { IsErrOf result AnswerStop.WriteFault → Rose (S.faults out.old) (S.faults out.new) }
     ensures counts { (S.faults out.old ≤ S.faults out.new) × (S.wants out.old ≤ S.wants out.new) }
 {
@@ -115,7 +115,7 @@ fn send_answer<S: Sink>(
             Ok(answer) => send_rows(alloc, network, number, &answer, out),
             Err(_) => Err(AnswerStop::NoMemory),
         },
-        Query::Range { .. } => Ok(()),
+        Query::Range { .. } => unreachable!(),
     }
 }
 
@@ -126,12 +126,12 @@ fn send_answers<S: Sink>(
     queries: &[Query],
     out: &mut S,
 ) -> Result<(), AnswerStop>
-    requires { length queries.now < 2 ^ 32 - 1 }
-    ensures ok { S.tells → OnOk result (IsNetwork network.now → IsNumbered network.now → All IsAt queries.now
-        → SendsQueries network.now queries.now (S.sent out.old) (S.sent out.new)) }
-    ensures err { S.tells → OnErr result (IsNetwork network.now → IsNumbered network.now → All IsAt queries.now
-        → SendsFirst network.now queries.now (S.sent out.old) (S.sent out.new)) }
-    ensures grows { S.tells → Grows (S.sent out.old) (S.sent out.new) }
+    requires few { length queries.now < 2 ^ 32 - 1 }
+    requires network { IsNetwork network.now }
+    requires numbered { IsNumbered network.now }
+    requires at { All IsAt queries.now }
+    ensures ok { S.tells → OnOk result (SendsQueries network.now queries.now (S.sent out.old) (S.sent out.new)) }
+    ensures err { S.tells → OnErr result (SendsFirst network.now queries.now (S.sent out.old) (S.sent out.new)) }
     ensures fault { IsErrOf result AnswerStop.WriteFault → Rose (S.faults out.old) (S.faults out.new) }
     ensures counts { (S.faults out.old ≤ S.faults out.new) × (S.wants out.old ≤ S.wants out.new) }
 {
@@ -153,21 +153,25 @@ pub fn answer<S: Sink, L: Ledger, M: Ledger>(
     _searches: &mut Steps<L>,
     _opens: &mut Steps<M>,
 ) -> Result<(), AnswerStop>
-    requires { length queries.now < 2 ^ 32 - 1 }
-    // Of a network, the rows are those of the answers to its queries; after a stop they are a prefix of the rows of the
-    // first queries.
-    ensures rows { S.tells → OnOk result (IsNetwork compiled.now.network → IsNumbered compiled.now.network → All IsAt queries.now
-        → PrintsAll compiled.now.network queries.now (S.sent out.old) (S.sent out.new)) }
-    ensures part { S.tells → OnErr result (IsNetwork compiled.now.network → IsNumbered compiled.now.network → All IsAt queries.now
-        → PrintsPart compiled.now.network queries.now (S.sent out.old) (S.sent out.new)) }
+    // The network keeps the rules that `check` tests, and the queries are as `read_queries` gives them for it.
+    requires rules { KeepsRules compiled.now.network }
+    requires numbered { IsNumbered compiled.now.network }
+    requires queries { All (IsQuery compiled.now.network) queries.now }
+    requires at { All IsAt queries.now }
+    requires few { length queries.now < 2 ^ 32 - 1 }
 
-    // Of every value, the header row comes first.
-    ensures ok { S.tells → OnOk result (SendsRows (S.sent out.old) (S.sent out.new)) }
-    ensures err { S.tells → OnErr result (SendsPartOfRows (S.sent out.old) (S.sent out.new)) }
+    // On Ok the rows are those of the answers to the queries; after a stop they are a prefix of the rows of the first
+    // queries.
+    ensures rows { S.tells → OnOk result (PrintsAll compiled.now.network queries.now (S.sent out.old) (S.sent out.new)) }
+    ensures part { S.tells → OnErr result (PrintsPart compiled.now.network queries.now (S.sent out.old) (S.sent out.new)) }
 
     // A write fault comes only where the faults of the sink rose.
     ensures fault { IsErrOf result AnswerStop.WriteFault → Rose (S.faults out.old) (S.faults out.new) }
+
+    // No count of the sink falls, and no counter is ticked yet.
     ensures counts { (S.faults out.old ≤ S.faults out.new) × (S.wants out.old ≤ S.wants out.new) }
+    ensures searches { _searches.new ≡ _searches.old }
+    ensures opens { _opens.new ≡ _opens.old }
 {
     if let Err(stop) = write_header(alloc, out) {
         return Err(stop_of(stop));

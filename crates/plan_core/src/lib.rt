@@ -3,8 +3,6 @@
 
 mod answers;
 mod compiled;
-#[cfg(test)]
-mod tests;
 
 pub use answers::{AnswerStop, answer};
 pub use compiled::{Compiled, compile};

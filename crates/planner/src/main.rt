@@ -1,34 +1,18 @@
-//! Plans journeys over a GTFS timetable and a street graph, with unrestricted walking.
+//! Plans journeys over a GTFS timetable and a street graph, with unrestricted walking: the top call over the files and
+//! streams of the system.
 #![tactic(auto)]
 
 ghost use Rattle.std.specs.Prelude.{◌≡◌, ◌<◌};
 
-mod columns;
-mod feed;
-mod inputs;
-mod line;
-mod run;
-mod status;
-#[cfg(test)]
-mod tests;
-mod words;
-
 use move_files::{DiskFiles, StdSink};
-use run::run;
-use status::{Status, exit_number};
 use std::marker::Brand;
 use std::process::ExitCode;
 use std::sync::ledger::{Blank, Ledger};
-use std::{env, io};
 use steps::Steps;
+use top_call::{Status, exit_number, run_program};
 
 // Runs over the files and streams of the system, with counters of its own.
-fn run_counted<L: Ledger, M: Ledger>(
-    rt: &HostRuntime,
-    words: &[String],
-    searches: Blank,
-    opens: Blank,
-) -> Status
+fn run_counted<L: Ledger, M: Ledger>(rt: &HostRuntime, searches: Blank, opens: Blank) -> Status
     requires searches_name { searches.name ≡ L.name }
     requires searches_parts { searches.parts ≡ L.parts }
     requires searches_some { 0 < searches.parts }
@@ -41,9 +25,8 @@ fn run_counted<L: Ledger, M: Ledger>(
     let mut files = DiskFiles::new(rt);
     let mut out = StdSink::new(rt.stdout());
     let mut err = StdSink::new(rt.stderr());
-    run(
-        rt.alloc(),
-        words,
+    run_program(
+        rt,
         &mut files,
         &mut out,
         &mut err,
@@ -52,19 +35,7 @@ fn run_counted<L: Ledger, M: Ledger>(
     )
 }
 
-// The words after the program's name.
-fn words_of(rt: &HostRuntime) -> io::Result<Vec<String>> {
-    let mut words = Vec::new(rt.alloc());
-    for word in env::args(rt)?.skip(1) {
-        words.push(word)?;
-    }
-    Ok(words)
-}
-
 fn main(rt: HostRuntime) -> ExitCode {
-    let status = match words_of(&rt) {
-        Ok(words) => run_counted::<Brand, Brand>(&rt, &words, Blank::new(1), Blank::new(1)),
-        Err(_) => Status::NoMemory,
-    };
+    let status = run_counted::<Brand, Brand>(&rt, Blank::new(1), Blank::new(1));
     ExitCode::from(exit_number(status))
 }

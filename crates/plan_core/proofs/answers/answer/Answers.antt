@@ -3,19 +3,15 @@ use Rattle.plan_core.proofs.SentLemmas.{all_printed, part_printed, part_of_heade
 use Rattle.plan_core.proofs.answers.answer.Goals as goal
 
 pub returns-in-Err-clause-part : goal.returns-in-Err-clause-part
-returns-in-Err-clause-part g c = λ tells net numbered all.
+returns-in-Err-clause-part g c = λ tells.
     part_of_header c.args.compiled.now.network c.args.queries.now _ _ (c.in-Err.ensures.err tells)
 
 pub returns-clause-rows : goal.returns-clause-rows
 returns-clause-rows g c = λ tells.
-    on_ok_weaker c.send_answers.result
-    (λ sent net numbered all.
-    all_printed c.args.compiled.now.network c.args.queries.now _ _ _ (c.in_default.ensures.ok tells) (sent net numbered all))
+    on_ok_weaker c.send_answers.result (all_printed c.args.compiled.now.network c.args.queries.now _ _ _ (c.in_default.ensures.ok tells))
     (rw c.as_slice.ensures at (c.send_answers.ensures.ok tells))
 
 pub returns-clause-part : goal.returns-clause-part
 returns-clause-part g c = λ tells.
-    on_err_weaker c.send_answers.result
-    (λ sent net numbered all.
-    part_printed c.args.compiled.now.network c.args.queries.now _ _ _ (c.in_default.ensures.ok tells) (sent net numbered all))
+    on_err_weaker c.send_answers.result (part_printed c.args.compiled.now.network c.args.queries.now _ _ _ (c.in_default.ensures.ok tells))
     (rw c.as_slice.ensures at (c.send_answers.ensures.err tells))

@@ -1,0 +1,10 @@
+use Rattle.plan_checks.proofs.sample.run_in.Given as goal
+
+abbrev pub ghosts-run_counted-L-Ledger : goal.ghosts-run_counted-L-Ledger
+ghosts-run_counted-L-Ledger g a = record { name = a.searches.name; parts = a.searches.parts }
+
+abbrev pub ghosts-run_counted-M-Ledger : goal.ghosts-run_counted-M-Ledger
+ghosts-run_counted-M-Ledger g a = record { name = a.opens.name; parts = a.opens.parts }
+
+abbrev pub invariant-loop-word : goal.invariant-loop-word
+invariant-loop-word g l = Unit {0}

@@ -1,0 +1,6 @@
+pub mod Words
+pub mod Reading
+pub mod Status
+pub mod Input
+pub mod Turns
+pub mod Rejected
