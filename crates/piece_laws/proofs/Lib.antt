@@ -1,0 +1,9 @@
+pub mod Entries
+pub mod Rides
+pub mod Covered
+pub mod Earlier
+pub mod Compose
+pub mod Keys
+pub mod Verdict
+pub mod Read
+pub mod Starts

@@ -1,0 +1,10 @@
+pub mod Viewed
+pub mod FirstLemmas
+pub mod SecondLemmas
+pub mod WalkLemmas
+pub mod RideRows
+pub mod FirstTable
+pub mod ReadyTable
+pub mod SecondTable
+pub mod Lasting
+pub mod LabelLemmas

@@ -1,0 +1,4 @@
+pub mod First
+pub mod Second
+pub mod Walks
+pub mod Closed

@@ -1,0 +1,7 @@
+pub mod Needed
+pub mod Stops
+pub mod Walks
+pub mod Rides
+pub mod Own
+pub mod Step
+pub mod Read
