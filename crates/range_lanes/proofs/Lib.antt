@@ -1,0 +1,17 @@
+pub mod Falling
+pub mod Complete
+pub mod Chains
+pub mod Riding
+pub mod Scanning
+pub mod Exploiting
+pub mod Below
+pub mod RoundLaw
+pub mod SoundLaw
+pub mod Rounding
+pub mod Starting
+pub mod Departing
+pub mod Bests
+pub mod Walking
+pub mod HitLemmas
+pub mod LevelLemmas
+pub mod LentLemmas

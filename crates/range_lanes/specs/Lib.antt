@@ -1,0 +1,4 @@
+pub mod Hits
+pub mod Levels
+pub mod State
+pub mod Lent
