@@ -1,20 +1,23 @@
 -- No journey has rides of which one is missed, as far as its walks are no shorter than the least sums of the hierarchy.
 use Rattle.std.proofs.Common.{◌≡◌, ◌∙◌, ◌+◌, ◌≤◌, ◌⊎◌, ℕ, List, [], ◌∷◌, Some, None, sym, ap, subst, inl, inr, arith}
 use Rattle.std.specs.Prelude.{All}
-use Rattle.std.proofs.lemmas.List.Elements.{All-head, All-tail}
+use Rattle.std.proofs.lemmas.List.Elements.{All-nil, All-cons, All-head, All-tail}
 use Rattle.move_model.specs.declared.network.Network.{Network}
 use Rattle.move_model.specs.declared.network.NodeNo.{NodeNo}
 use Rattle.move_model.specs.declared.network.Call.{Call}
 use Rattle.move_model.specs.declared.journey.Ride.{Ride}
-use Rattle.move_model.specs.Streets.{IsVertex, IsWalk}
+use Rattle.move_model.specs.Streets.{IsVertex, IsWalk, IsDistance}
+use Rattle.move_model.specs.Streets.IsWalk.{stays, goes}
 use Rattle.move_model.specs.Network.{IsNetwork, streets, node_of}
 use Rattle.move_model.specs.Journey.{IsRide, Travels}
+use Rattle.move_model.specs.Found.{IsLeastWalk}
 use Rattle.move_model.specs.Journey.Travels.{walks, rides}
 use Rattle.pareto_laws.proofs.Calls.{on_same, off_same}
 use Rattle.pareto_laws.proofs.Walks.{walk_first, walk_last, walk_same, IsWalk-begins, IsWalk-ends}
 use Rattle.walk_laws.specs.Sums.{IsLeast}
 use Rattle.walk_hierarchy.specs.Hierarchy.{Parts, IsUpDownSum, GivesDistances}
-use Rattle.journey_build.specs.Built.{IsLeastWay, IsLeastWalk, IsMissed, IsBroken}
+use Rattle.walk_hierarchy.proofs.WayLaws.{no_twice}
+use Rattle.journey_build.specs.Built.{IsLeastWay, IsMissed, IsBroken}
 use Rattle.journey_build.specs.Built.IsMissed.{no_ride, no_way, too_late}
 use Rattle.journey_build.specs.Built.IsBroken.{at_end, here, later}
 
@@ -96,17 +99,20 @@ module _ (n : Network) (h : Parts) (ok : IsNetwork n) (gives : GivesDistances (s
         no_less = λ k least. ((gives.distances p q (Some k) at_p at_q).0 least).least walk m is;
       }
 
+  vertices : {a b : NodeNo} {walk : List NodeNo} {m : ℕ} → IsWalk (streets n) a walk b m → All (IsVertex (streets n)) walk
+  vertices (stays at) = All-cons (IsVertex (streets n)) _ [] at (All-nil (IsVertex (streets n)))
+  vertices (goes {a = a} {vs = vs} arc rest) = All-cons (IsVertex (streets n)) a vs (IsWalk-begins (streets n) ok.streets_join (goes arc rest)) (vertices rest)
+
   pub least_walk : (walk : List NodeNo) → IsLeastWay (streets n) h walk → IsLeastWalk (streets n) walk
   least_walk walk way =
       let at_p : IsVertex (streets n) way.from = IsWalk-begins (streets n) ok.streets_join way.way.walks in
       let at_q : IsVertex (streets n) way.to = IsWalk-ends (streets n) ok.streets_join way.way.walks in
+      let distance : IsDistance (streets n) way.from way.to way.way.seconds = (gives.distances way.from way.to (Some way.way.seconds) at_p at_q).0 way.way.least in
       record {
         from = way.from;
         to = way.to;
-        way = record {
-          seconds = way.way.seconds;
-          walks = way.way.walks;
-          least = (gives.distances way.from way.to (Some way.way.seconds) at_p at_q).0 way.way.least;
-          goes_on = way.way.goes_on;
-        };
+        seconds = way.way.seconds;
+        walks = way.way.walks;
+        least = distance;
+        no_vertex_twice = no_twice (streets n) way.way.walks (vertices way.way.walks) way.way.no_idle_circle distance.least;
       }

@@ -9,10 +9,11 @@ use Rattle.move_model.specs.declared.journey.Ride.{Ride}
 use Rattle.move_model.specs.declared.journey.Journey.{Journey}
 use Rattle.move_model.specs.Network.{IsNetwork, streets, node_of}
 use Rattle.move_model.specs.Journey.{Travels}
+use Rattle.move_model.specs.Found.{IsLeastWalk}
 use Rattle.move_model.specs.Journey.Travels.{walks, rides}
 use Rattle.walk_hierarchy.specs.Hierarchy.{Parts, IsNode, IsUpDownSum, IsWayOver, GivesDistances}
 use Rattle.journey_build.specs.declared.leg.Leg.{Leg}
-use Rattle.journey_build.specs.Built.{IsLeastWay, IsLeastWalk, IsBuilt, IsMissed, IsBroken, HasRides}
+use Rattle.journey_build.specs.Built.{IsLeastWay, IsBuilt, IsMissed, IsBroken, HasRides}
 use Rattle.journey_build.specs.Built.IsBroken.{at_end, here, later}
 use Rattle.journey_build.specs.Leg.{IsLeg, IsOnWay}
 use Rattle.journey_build.proofs.BrokenLaws.{unbroken, least_suits, distance_suits, least_walk, IsSuited}

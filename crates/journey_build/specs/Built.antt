@@ -1,5 +1,6 @@
 -- Journeys with given rides, by walks with the least seconds of a hierarchy.
---     IsLeastWay g h walk        the walk has the least seconds of arcs up and arcs down between its ends, and goes on at each step
+--     IsLeastWay g h walk        the walk has the least seconds of arcs up and arcs down between its ends, goes on at each step,
+--                                and comes to no vertex twice at one second
 --     IsBuilt n h s d rides t j  j is a journey from s at second d to t with these rides, by such walks
 --     IsMissed n h p r ride      a passenger at p at second r can't board: it is no ride, no arcs up and down lead there, or they take too long
 --     IsBroken n h p r rides t   some of the rides is missed so, or no arcs up and down lead on to t
@@ -14,17 +15,12 @@ use Rattle.move_model.specs.Streets.{Streets}
 use Rattle.move_model.specs.Network.{streets, node_of}
 use Rattle.move_model.specs.Journey.{IsRide, IsJourney}
 use Rattle.walk_laws.specs.Sums.{IsLeast}
-use Rattle.walk_hierarchy.specs.Hierarchy.{Parts, IsUpDownSum, IsWayOver, IsShortestWalk}
+use Rattle.walk_hierarchy.specs.Hierarchy.{Parts, IsUpDownSum, IsWayOver}
 
 pub record IsLeastWay (g : Streets) (h : Parts) (walk : List NodeNo) : Type 0 where
   pub from : NodeNo
   pub to : NodeNo
   pub way : IsWayOver g h from to walk
-
-pub record IsLeastWalk (g : Streets) (walk : List NodeNo) : Type 0 where
-  pub from : NodeNo
-  pub to : NodeNo
-  pub way : IsShortestWalk g from to walk
 
 pub record IsBuilt (n : Network) (h : Parts) (from : NodeNo) (depart : ℕ) (rides : List Ride) (to : NodeNo) (journey : Journey) : Type 0 where
   pub departs : journey.depart ≡ depart

@@ -1,8 +1,9 @@
 // Journeys with given rides.
 ghost use Rattle.std.specs.Prelude.{◌≡◌, ◌↔◌, ◌+◌, ◌≤◌, IfOk, IfSome, IsNone, All, length};
 ghost use Rattle.move_model.specs.Network.{streets, IsNetwork};
+ghost use Rattle.move_model.specs.Found.{IsLeastWalk};
 ghost use Rattle.walk_hierarchy.specs.Hierarchy.{IsNode, IsOver, GivesDistances};
-ghost use Rattle.journey_build.specs.Built.{IsBuilt, IsBroken, IsLeastWalk, HasRides};
+ghost use Rattle.journey_build.specs.Built.{IsBuilt, IsBroken, HasRides};
 
 use crate::leg::next_leg;
 use move_model::{Journey, Network, NoMemory, NodeNo, RideList, Walks};
@@ -12,7 +13,7 @@ use steps::Steps;
 use walk_hierarchy::{Hierarchy, Work, path};
 
 /// The journey with these rides that leaves a vertex at a second. Each of its walks has the least seconds of the hierarchy
-/// between its ends, and no vertex twice next to itself. None comes where a ride is none of the network, where the
+/// between its ends, and comes to no vertex twice at one second. None comes where a ride is none of the network, where the
 /// hierarchy leads between no two places that a walk must join, and where a ride leaves before the walk there and the
 /// buffer end. A search is made for each walk, and none behind the one that fails.
 pub fn build<L: Ledger>(

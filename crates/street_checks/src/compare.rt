@@ -3,7 +3,7 @@ ghost use Rattle.std.specs.Prelude.{◌≡◌, ◌<◌, ◌≤◌, length};
 ghost use Rattle.walk_hierarchy.specs.Hierarchy.{IsNode};
 
 use crate::difference::Difference;
-use crate::plain::{Distances, by_vertex, least_meeting, walk_seconds};
+use crate::plain::{Distances, by_vertex, comes_twice, least_meeting, walk_seconds};
 use move_model::{Arc, NoMemory, NodeNo};
 use std::alloc::Global;
 use std::sync::ledger::Ledger;
@@ -37,6 +37,13 @@ fn pair_difference<L: Ledger>(
     };
     if walk.is_some() != want.is_some() || seconds != want {
         return Ok(Some(Difference::Path(a, b)));
+    }
+    let twice = match &walk {
+        Some(walk) => comes_twice(walk.as_slice()),
+        None => false,
+    };
+    if twice {
+        return Ok(Some(Difference::Circle(a, b)));
     }
     Ok(None)
 }

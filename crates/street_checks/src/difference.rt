@@ -8,6 +8,8 @@ pub enum Difference {
     Distance(NodeNo, NodeNo),
     /// The walk between two vertices.
     Path(NodeNo, NodeNo),
+    /// A walk between two vertices that comes to a vertex twice.
+    Circle(NodeNo, NodeNo),
     /// The sums up from a vertex.
     Up(NodeNo),
     /// The sums down to a vertex.

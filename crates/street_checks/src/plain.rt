@@ -89,3 +89,15 @@ pub fn least_meeting(up: &[Option<u64>], down: &[Option<u64>]) -> Option<u64> {
     }
     least
 }
+
+/// Whether a walk comes to a vertex twice.
+pub fn comes_twice(walk: &[NodeNo]) -> bool {
+    for place in 0..walk.len() {
+        for other in place + 1..walk.len() {
+            if walk[place] == walk[other] {
+                return true;
+            }
+        }
+    }
+    false
+}

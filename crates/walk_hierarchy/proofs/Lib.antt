@@ -5,4 +5,5 @@ pub mod PlaceLaws
 pub mod HalfLaws
 pub mod LabelLaws
 pub mod MeetLaws
+pub mod WayLaws
 pub mod UnfoldLaws

@@ -4,12 +4,11 @@ use Rattle.std.specs.Prelude.{All, Contains, ◌==◌, if◌then◌else◌}
 use Rattle.std.specs.List.{AllAdjacentBelow, sum_by}
 use Rattle.std.proofs.lemmas.Bool.{cases_eq, cases_lt}
 use Rattle.std.proofs.lemmas.Bool.Decides.{nat_tests}
-use Rattle.std.proofs.lemmas.List.{get_or_default, get_or_append_left, get_or_push, length_push}
+use Rattle.std.proofs.lemmas.List.{get_or_default, get_or_append_left, length_push}
 use Rattle.std.proofs.lemmas.List.Sums.{sum_by_push}
 use Rattle.std.proofs.lemmas.List.Elements.{All-contains, Contains-push}
 use Rattle.move_model.specs.declared.network.NodeNo.{NodeNo}
-use Rattle.move_model.specs.Streets.{Streets, IsVertex, IsLeastArc, IsWalk, HasDistance}
-use Rattle.move_model.specs.Streets.IsWalk.{stays, goes}
+use Rattle.move_model.specs.Streets.{Streets, IsVertex, IsLeastArc, HasDistance}
 use Rattle.walk_hierarchy.specs.declared.arcs.UpDown.{UpDown}
 use Rattle.walk_hierarchy.specs.declared.labels.Label.{Label}
 use Rattle.walk_laws.specs.Sums.{IsSum, IsLeast}
@@ -19,42 +18,14 @@ use Rattle.walk_hierarchy.specs.Labels.{HasLabel, AreSums}
 use Rattle.walk_hierarchy.specs.Meeting.{IsArcBack}
 use Rattle.walk_hierarchy.specs.Unfolding.{IsArcOf, IsStack, IsUnfolding}
 use Rattle.walk_hierarchy.specs.Unfolding.IsStack.{none, more}
+use Rattle.walk_hierarchy.specs.declared.way.Way.{Way}
+use Rattle.walk_hierarchy.specs.Way.{IsWay}
 use Rattle.walk_laws.proofs.SumLemmas.{IsSum-append, IsSum-one}
 use Rattle.walk_hierarchy.proofs.MeetLaws.{distance_from}
+use Rattle.walk_hierarchy.proofs.WayLaws.{way_starts, no_twice}
 
 node_eq : (a b : NodeNo) → a.0 ≡ b.0 → a ≡ b
 node_eq a b e = ap (λ (k : ℕ). let v : NodeNo = record { 0 = k } in v) e
-
--- walks
-
-module _ (g : Streets) where
-  pub walk_push : {a p q : NodeNo} {vs : List NodeNo} {l m : ℕ} → IsVertex g q → IsWalk g a vs p m → IsLeastArc g.arcs p q l → IsWalk g a (vs ++ q ∷ []) q (m + l)
-  walk_push {a} {p} {q} {vs} {l} {m} is (stays at) arc =
-      let whole : IsWalk g a (a ∷ q ∷ []) q (l + 0) = goes arc (stays is) in
-      subst (λ (k : ℕ). IsWalk g a (a ∷ q ∷ []) q k) (omega arith) whole
-  walk_push {a} {p} {q} {vs} {l} {m} is (goes {vs = us} {l = l1} {m = m1} first rest) arc =
-      let whole : IsWalk g a (a ∷ (us ++ q ∷ [])) q (l1 + (m1 + l)) = goes first (walk_push is rest arc) in
-      subst (λ (k : ℕ). IsWalk g a (a ∷ (us ++ q ∷ [])) q k) (omega arith) whole
-
-  walk_some : {a b : NodeNo} {vs : List NodeNo} {m : ℕ} → IsWalk g a vs b m → 1 ≤ length vs
-  walk_some (stays at) = omega arith
-  walk_some (goes first rest) = omega arith
-
-  walk_last : {a b : NodeNo} {vs : List NodeNo} {m : ℕ} → IsWalk g a vs b m → (k : ℕ) (d : NodeNo) → length vs ≡ k + 1 → slice_index_or vs k d ≡ b
-  walk_last (stays at) zero d e = refl
-  walk_last (stays at) (suc k) d e = absurd (omega arith)
-  walk_last (goes first rest) zero d e = absurd (omega (arith, walk_some rest))
-  walk_last (goes first rest) (suc k) d e = walk_last rest k d (omega arith)
-
-  pub goes_on_push : {a p : NodeNo} {vs : List NodeNo} {m : ℕ} (q : NodeNo) → IsWalk g a vs p m → p ≢ q → AllAdjacentBelow (λ v w. v ≢ w) vs (length vs)
-      → AllAdjacentBelow (λ v w. v ≢ w) (vs ++ q ∷ []) (length (vs ++ q ∷ []))
-  goes_on_push {a} {p} {vs} {m} q walk apart on = λ k d lt same. elim (cases_lt (k + 1) (length vs)) [
-    | inl low ↦
-        on k d low (sym (get_or_append_left vs (q ∷ []) d k (omega arith)) ∙ same ∙ get_or_append_left vs (q ∷ []) d (k + 1) low)
-    | inr past ↦
-        let end : length vs ≡ k + 1 = omega (arith, lt, length_push vs q) in
-        apart (sym (walk_last walk k d end) ∙ sym (get_or_append_left vs (q ∷ []) d k (omega arith)) ∙ same ∙ get_or_push vs q d (k + 1) end)
-  ]
 
 -- stacks
 
@@ -170,9 +141,11 @@ module _ (h : Parts) (rules : IsHierarchy h) where
     street_of arc (inr down) e = All-contains (IsLeastStreet graph) h.down arc over.down down e
 
     -- along the street of the last arc
-    pub unfolding_street : (a b : NodeNo) (total : ℕ) (xs : List UpDown) (arc : UpDown) (walk : List NodeNo) → IsArcOf h arc → arc.middle.0 ≡ 0
-        → IsUnfolding graph a b total (xs ++ arc ∷ []) walk → IsUnfolding graph a b total xs (walk ++ arc.to ∷ [])
-    unfolding_street a b total xs arc walk is zero_middle so =
+    pub unfolding_street : (a b : NodeNo) (total : ℕ) (xs : List UpDown) (arc : UpDown) (way longer : Way) → IsArcOf h arc → arc.middle.0 ≡ 0
+        → ((p q : NodeNo) (m : ℕ) → IsVertex graph arc.to → q ≢ arc.to → IsLeastArc graph.arcs q arc.to arc.seconds
+        → IsWay graph p q m way.places.items way.since → IsWay graph p arc.to (m + arc.seconds) longer.places.items longer.since)
+        → IsUnfolding graph a b total (xs ++ arc ∷ []) way → IsUnfolding graph a b total xs longer
+    unfolding_street a b total xs arc way longer is zero_middle goes_on so =
         let popped = stack_pop xs arc so.at b so.ahead so.stacked in
         let street : IsLeastArc graph.arcs so.at arc.to arc.seconds =
         subst (λ (v : NodeNo). IsLeastArc graph.arcs v arc.to arc.seconds) popped.at (street_of arc is zero_middle) in
@@ -182,17 +155,16 @@ module _ (h : Parts) (rules : IsHierarchy h) where
           at = arc.to;
           walked = so.walked + arc.seconds;
           ahead = popped.k;
-          walks = walk_push graph vertex so.walks street;
-          goes_on = goes_on_push graph arc.to so.walks (λ same. ends_apart arc is (popped.at ∙ same)) so.goes_on;
+          walks = goes_on a so.at so.walked vertex (λ same. ends_apart arc is (popped.at ∙ same)) street so.walks;
           stacked = popped.rest;
           all = omega (arith, popped.all, so.all);
         }
 
   -- the two parts in the place of the last arc
-  pub unfolding_parts : (graph : Streets) (a b : NodeNo) (total : ℕ) (xs : List UpDown) (arc first second : UpDown) (walk : List NodeNo)
+  pub unfolding_parts : (graph : Streets) (a b : NodeNo) (total : ℕ) (xs : List UpDown) (arc first second : UpDown) (way : Way)
       → first.from ≡ arc.from → first.to ≡ arc.middle → second.from ≡ arc.middle → second.to ≡ arc.to → first.seconds + second.seconds ≡ arc.seconds
-      → IsUnfolding graph a b total (xs ++ arc ∷ []) walk → IsUnfolding graph a b total ((xs ++ second ∷ []) ++ first ∷ []) walk
-  unfolding_parts graph a b total xs arc first second walk from middle middle_too to sum so =
+      → IsUnfolding graph a b total (xs ++ arc ∷ []) way → IsUnfolding graph a b total ((xs ++ second ∷ []) ++ first ∷ []) way
+  unfolding_parts graph a b total xs arc first second way from middle middle_too to sum so =
       let popped = stack_pop xs arc so.at b so.ahead so.stacked in
       let one : IsStack (xs ++ second ∷ []) second.from b (popped.k + second.seconds) = stack_push xs second popped.rest to in
       let two : IsStack ((xs ++ second ∷ []) ++ first ∷ []) first.from b (popped.k + second.seconds + first.seconds) = stack_push (xs ++ second ∷ []) first one (middle ∙ sym middle_too) in
@@ -203,7 +175,6 @@ module _ (h : Parts) (rules : IsHierarchy h) where
         walked = so.walked;
         ahead = popped.k + second.seconds + first.seconds;
         walks = so.walks;
-        goes_on = so.goes_on;
         stacked = there;
         all = omega (arith, popped.all, so.all, sum);
       }
@@ -324,24 +295,23 @@ pub first_zero : (arc : ℕ → ℕ → ℕ → Type 0) (from s : ℕ) → IsLea
 first_zero arc from s is = omega (arith, is.least 0 no_arcs)
 
 -- the walk at its first vertex
-pub unfolding_first : (graph : Streets) (h : Parts) (over : IsOver graph h) (a top : NodeNo) (m : ℕ) (stack : List UpDown) (walk : List NodeNo)
-    → IsNode h a → walk ≡ a ∷ [] → IsStack stack a top m → IsUnfolding graph a top m stack walk
-unfolding_first graph h over a top m stack walk is e stacked =
-    subst (λ (w : List NodeNo). IsUnfolding graph a top m stack w) (sym e)
-    (record {
+pub unfolding_first : (graph : Streets) (h : Parts) (over : IsOver graph h) (a top : NodeNo) (m : ℕ) (stack : List UpDown) (way : Way)
+    → IsNode h a → way.places.items ≡ a ∷ [] → way.since ≡ 0 → IsStack stack a top m → IsUnfolding graph a top m stack way
+unfolding_first graph h over a top m stack way is e since stacked =
+    let vertex : IsVertex graph a = record { from_one = is.from_one; to_nodes = omega (arith, is.to_nodes, over.nodes) } in
+    record {
       at = a;
       walked = 0;
       ahead = m;
-      walks = stays (record { from_one = is.from_one; to_nodes = omega (arith, is.to_nodes, over.nodes) });
-      goes_on = λ k d lt. absurd (omega arith);
+      walks = subst (λ (w : List NodeNo). IsWay graph a a 0 w way.since) (sym e) (subst (λ (k : ℕ). IsWay graph a a 0 (a ∷ []) k) (sym since) (way_starts graph a vertex));
       stacked = stacked;
       all = omega arith;
-    })
+    }
 
 -- one arc more to go
-pub unfolding_push : (graph : Streets) (a top : NodeNo) (m : ℕ) (arc : UpDown) (stack : List UpDown) (walk : List NodeNo)
-    → stack ≡ arc ∷ [] → arc.from ≡ top → IsUnfolding graph a top m [] walk → IsUnfolding graph a arc.to (m + arc.seconds) stack walk
-unfolding_push graph a top m arc stack walk e from so =
+pub unfolding_push : (graph : Streets) (a top : NodeNo) (m : ℕ) (arc : UpDown) (stack : List UpDown) (way : Way)
+    → stack ≡ arc ∷ [] → arc.from ≡ top → IsUnfolding graph a top m [] way → IsUnfolding graph a arc.to (m + arc.seconds) stack way
+unfolding_push graph a top m arc stack way e from so =
     let empty = stack_none so.stacked in
     let one : IsStack (arc ∷ []) arc.from arc.to (0 + arc.seconds) = more refl none in
     let there : IsStack stack so.at arc.to (0 + arc.seconds) =
@@ -352,30 +322,30 @@ unfolding_push graph a top m arc stack walk e from so =
       walked = so.walked;
       ahead = 0 + arc.seconds;
       walks = so.walks;
-      goes_on = so.goes_on;
       stacked = there;
       all = omega (arith, so.all, empty.1);
     }
 
 -- nothing is left to go
-pub unfolded : (graph : Streets) (a b : NodeNo) (m : ℕ) (walk : List NodeNo) → IsUnfolding graph a b m [] walk
-    → IsWalk graph a walk b m × AllAdjacentBelow (λ v w. v ≢ w) walk (length walk)
-unfolded graph a b m walk so =
+pub unfolded : (graph : Streets) (a b : NodeNo) (m : ℕ) (way : Way) → IsUnfolding graph a b m [] way → IsWay graph a b m way.places.items way.since
+unfolded graph a b m way so =
     let empty = stack_none so.stacked in
-    (subst (λ (v : NodeNo). IsWalk graph a walk v m) empty.0 (subst (λ (k : ℕ). IsWalk graph a walk so.at k) (let e : so.walked ≡ m = omega (arith, so.all, empty.1) in e) so.walks), so.goes_on)
+    let same : so.walked ≡ m = omega (arith, so.all, empty.1) in
+    subst (λ (v : NodeNo). IsWay graph a v m way.places.items way.since) empty.0 (subst (λ (k : ℕ). IsWay graph a so.at k way.places.items way.since) same so.walks)
 
 -- the walk by way of the vertex where the searches met
-pub way_over : (graph : Streets) (h : Parts) (a b : NodeNo) (m : ℕ) (walk : List NodeNo) → IsLeast (IsUpDownSum h a b) m → IsUnfolding graph a b m [] walk → IsWayOver graph h a b walk
-way_over graph h a b m walk least so =
-    let done = unfolded graph a b m walk so in
-    record { seconds = m; walks = done.0; least = least; goes_on = done.1 }
+pub way_over : (graph : Streets) (h : Parts) (a b : NodeNo) (m : ℕ) (way : Way) → IsLeast (IsUpDownSum h a b) m → IsUnfolding graph a b m [] way
+    → IsWayOver graph h a b way.places.items
+way_over graph h a b m way least so =
+    let done = unfolded graph a b m way so in
+    record { seconds = m; walks = done.walks; least = least; goes_on = done.goes_on; no_idle_circle = done.no_circle }
 
-pub shortest_walk : (graph : Streets) (h : Parts) (a b : NodeNo) (m : ℕ) (walk : List NodeNo) → IsNode h a → IsNode h b → GivesDistances graph h
-    → IsLeast (IsUpDownSum h a b) m → IsUnfolding graph a b m [] walk → IsShortestWalk graph a b walk
-shortest_walk graph h a b m walk a_is b_is gives least so =
-    let done = unfolded graph a b m walk so in
+pub shortest_walk : (graph : Streets) (h : Parts) (a b : NodeNo) (m : ℕ) (way : Way) → IsNode h a → IsNode h b → GivesDistances graph h
+    → IsLeast (IsUpDownSum h a b) m → IsUnfolding graph a b m [] way → IsShortestWalk graph a b way.places.items
+shortest_walk graph h a b m way a_is b_is gives least so =
+    let done = unfolded graph a b m way so in
     let distance : HasDistance graph a b (Some m) = distance_from h a b (Some m) a_is b_is least graph gives in
-    record { seconds = m; walks = done.0; least = distance; goes_on = done.1 }
+    record { seconds = m; walks = done.walks; least = distance; no_vertex_twice = no_twice graph done.walks done.vertices done.no_circle distance.least }
 
 -- lists of arcs that end in one more
 

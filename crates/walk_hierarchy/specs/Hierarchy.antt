@@ -9,9 +9,10 @@
 --     IsUpDownSum h a b m        arcs up, and then arcs down, lead from a to b, with m seconds in all
 --     GivesDistances graph h     the least such sums are the distances of the graph
 --     AreSettled sum entries     the entries are the least sums, one for each vertex that has one
---     IsWayOver graph h a b walk  a walk from a to b that has the least seconds of arcs up and arcs down
---     IsShortestWalk graph a b walk  a walk from a to b that has the seconds of the distance
-use Rattle.std.specs.Prelude.{◌≡◌, ◌≢◌, ℕ, ◌+◌, ◌-◌, ◌<◌, ◌≤◌, ◌⊎◌, ◌↔◌, List, length, slice_index, All, AllPairs, Contains, Option}
+--     HasNoIdleCircle graph walk  no part of the walk comes back to its first vertex in 0 seconds
+--     IsWayOver graph h a b walk  a walk from a to b that has the least seconds of arcs up and arcs down, and no idle circle
+--     IsShortestWalk graph a b walk  a walk from a to b that has the seconds of the distance, and comes to no vertex twice
+use Rattle.std.specs.Prelude.{◌≡◌, ◌≢◌, ℕ, ◌+◌, ◌-◌, ◌<◌, ◌≤◌, ◌⊎◌, ◌↔◌, List, ◌++◌, length, slice_index, All, AllPairs, Contains, Option}
 use Rattle.std.specs.List.{AllAdjacentBelow}
 use Rattle.move_model.specs.declared.network.NodeNo.{NodeNo}
 use Rattle.move_model.specs.Streets.{Streets, IsVertex, IsLeastArc, IsWalk, IsDistance, HasDistance}
@@ -115,14 +116,19 @@ pub record AreSettled (sum : ℕ → ℕ → Type 0) (entries : List Settled) : 
   pub least : (v m : ℕ) → Contains entries (record { node = record { 0 = v }; seconds = m }) ↔ IsLeast (sum v) m
   pub once : AllPairs (λ entry other. entry.node ≢ other.node) entries
 
+-- so the walk comes to no vertex twice at one second; a part that is one vertex alone stays there
+abbrev pub HasNoIdleCircle : Streets → List NodeNo → Type 0
+HasNoIdleCircle graph walk = (us vs ws : List NodeNo) (v : NodeNo) → walk ≡ us ++ vs ++ ws → IsWalk graph v vs v 0 → length vs ≡ 1
+
 pub record IsWayOver (graph : Streets) (h : Parts) (a b : NodeNo) (walk : List NodeNo) : Type 0 where
   pub seconds : ℕ
   pub walks : IsWalk graph a walk b seconds
   pub least : IsLeast (IsUpDownSum h a b) seconds
   pub goes_on : AllAdjacentBelow (λ p q. p ≢ q) walk (length walk)
+  pub no_idle_circle : HasNoIdleCircle graph walk
 
 pub record IsShortestWalk (graph : Streets) (a b : NodeNo) (walk : List NodeNo) : Type 0 where
   pub seconds : ℕ
   pub walks : IsWalk graph a walk b seconds
   pub least : IsDistance graph a b seconds
-  pub goes_on : AllAdjacentBelow (λ p q. p ≢ q) walk (length walk)
+  pub no_vertex_twice : AllPairs (λ p q. p ≢ q) walk

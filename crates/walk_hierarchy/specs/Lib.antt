@@ -9,3 +9,4 @@ pub mod Search
 pub mod Sweep
 pub mod Meeting
 pub mod Unfolding
+pub mod Way

@@ -24,6 +24,7 @@ mod settled;
 mod sweep;
 mod unfolding;
 mod up_down;
+mod way;
 mod work;
 
 pub use arcs::{Ranks, UpDown, UpDowns};

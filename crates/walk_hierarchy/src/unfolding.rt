@@ -13,6 +13,7 @@ use crate::arcs::UpDown;
 use crate::hierarchy::Hierarchy;
 use crate::labels::{Label, Labels};
 use crate::meeting::{Meeting, meet};
+use crate::way::Way;
 use crate::work::Work;
 use move_model::{NoMemory, NodeNo, Walk};
 use std::alloc::Global;
@@ -46,16 +47,16 @@ fn parts(hierarchy: &Hierarchy, arc: UpDown) -> (UpDown, UpDown)
 }
 
 // Goes on along the streets of the arcs of a stack, from the last arc to the first.
-fn unfold(hierarchy: &Hierarchy, stack: &mut Vec<UpDown>, walk: &mut Walk) -> Result<(), NoMemory>
+fn unfold(hierarchy: &Hierarchy, stack: &mut Vec<UpDown>, way: &mut Way) -> Result<(), NoMemory>
     requires rules { IsHierarchy hierarchy.now }
     requires arcs { All (IsArcOf hierarchy.now) stack.old.items }
     ensures walks { OnOk result ((graph : Streets) (a b : NodeNo) (total : ℕ) → IsOver graph hierarchy.now
-        → IsUnfolding graph a b total stack.old.items walk.old → IsUnfolding graph a b total [] walk.new) }
+        → IsUnfolding graph a b total stack.old.items way.old → IsUnfolding graph a b total [] way.new) }
     ensures empty { OnOk result (stack.new.items ≡ []) }
 {
     'arcs: while let Some(arc) = stack.pop() {
         if arc.middle.0 == 0 {
-            walk.push(arc.to)?;
+            way.go_on(arc.to, arc.seconds)?;
         } else {
             let (first, second) = parts(hierarchy, arc);
             stack.push(second)?;
@@ -112,7 +113,7 @@ fn fall(
     names: &[u32],
     labels: &Labels,
     stack: &mut Vec<UpDown>,
-    walk: &mut Walk,
+    way: &mut Way,
 ) -> Result<(), NoMemory>
     requires rules { IsHierarchy hierarchy.now }
     requires names { AreNames hierarchy.now.ranks names.now }
@@ -120,13 +121,13 @@ fn fall(
     requires top { HasLeastLabel (IsArcBack hierarchy.now.down) to.0 (by_vertex hierarchy.now.ranks names.now labels.now) top.0 }
     requires empty { stack.old.items ≡ [] }
     ensures walks { OnOk result ((graph : Streets) (a : NodeNo) (m : ℕ) (x : Label) → IsOver graph hierarchy.now → HasLabel (by_vertex hierarchy.now.ranks names.now labels.now) top.0 x
-        → IsUnfolding graph a top m [] walk.old → IsUnfolding graph a to (m + x.seconds) [] walk.new) }
+        → IsUnfolding graph a top m [] way.old → IsUnfolding graph a to (m + x.seconds) [] way.new) }
 {
     let mut at = top;
     'on: while at.0 != to.0 {
         let parent = label_at(hierarchy, names, labels, at).parent;
         stack.push(hierarchy.arc_down(at, parent))?;
-        unfold(hierarchy, stack, walk)?;
+        unfold(hierarchy, stack, way)?;
         at = parent;
     }
     Ok(())
@@ -142,7 +143,7 @@ fn walk_by(
     names: &[u32],
     up: &Labels,
     down: &Labels,
-) -> Result<Walk, NoMemory>
+) -> Result<Way, NoMemory>
     requires rules { IsHierarchy hierarchy.now }
     requires names { AreNames hierarchy.now.ranks names.now }
     requires a { IsNode hierarchy.now a }
@@ -150,16 +151,15 @@ fn walk_by(
     requires down { AreSums (IsArcBack hierarchy.now.down) b.0 (by_vertex hierarchy.now.ranks names.now down.now) }
     requires there { HasLeastLabel (HasArc hierarchy.now.up) a.0 (by_vertex hierarchy.now.ranks names.now up.now) top.0 }
     requires back { HasLeastLabel (IsArcBack hierarchy.now.down) b.0 (by_vertex hierarchy.now.ranks names.now down.now) top.0 }
-    ensures { IfOk result (λ walk. (graph : Streets) (x y : Label) → IsOver graph hierarchy.now → HasLabel (by_vertex hierarchy.now.ranks names.now up.now) top.0 x → HasLabel (by_vertex hierarchy.now.ranks names.now down.now) top.0 y
-        → IsUnfolding graph a b (x.seconds + y.seconds) [] walk) }
+    ensures { IfOk result (λ way. (graph : Streets) (x y : Label) → IsOver graph hierarchy.now → HasLabel (by_vertex hierarchy.now.ranks names.now up.now) top.0 x → HasLabel (by_vertex hierarchy.now.ranks names.now down.now) top.0 y
+        → IsUnfolding graph a b (x.seconds + y.seconds) [] way) }
 {
-    let mut walk = Walk::new(alloc);
-    walk.push(a)?;
+    let mut way = Way::new(alloc, a)?;
     let mut stack = Vec::new(alloc);
     climb(hierarchy, a, top, names, up, &mut stack)?;
-    unfold(hierarchy, &mut stack, &mut walk)?;
-    fall(hierarchy, top, b, names, down, &mut stack, &mut walk)?;
-    Ok(walk)
+    unfold(hierarchy, &mut stack, &mut way)?;
+    fall(hierarchy, top, b, names, down, &mut stack, &mut way)?;
+    Ok(way)
 }
 
 // The walk by way of the vertex where the searches met, if they did.
@@ -188,16 +188,16 @@ fn walk_of(
     let Some(meeting) = meeting else {
         return Ok(None);
     };
-    let walk = walk_by(alloc, hierarchy, a, b, meeting.node, names, up, down)?;
+    let way = walk_by(alloc, hierarchy, a, b, meeting.node, names, up, down)?;
     Ok(Some(TimedWalk {
-        walk,
+        walk: way.into_walk(),
         seconds: meeting.seconds,
     }))
 }
 
 /// A walk along streets that has the least seconds of arcs up from one vertex and then arcs down to the other, with these
-/// seconds, or None where no such arcs lead there. For a hierarchy that keeps the distances of its streets, it has those of
-/// the distance.
+/// seconds, or None where no such arcs lead there. It comes to no vertex twice at one second. For a hierarchy that keeps the
+/// distances of its streets, it has the seconds of the distance, and comes to no vertex twice.
 pub fn timed_path<L: Ledger>(
     alloc: Global,
     hierarchy: &Hierarchy,
@@ -236,7 +236,8 @@ pub fn timed_path<L: Ledger>(
 }
 
 /// A walk along streets that has the least seconds of arcs up from one vertex and then arcs down to the other, or None
-/// where no such arcs lead there. For a hierarchy that keeps the distances of its streets, it has those of the distance.
+/// where no such arcs lead there. It comes to no vertex twice at one second. For a hierarchy that keeps the distances of its
+/// streets, it has the seconds of the distance, and comes to no vertex twice.
 pub fn path<L: Ledger>(
     alloc: Global,
     hierarchy: &Hierarchy,

@@ -19,7 +19,7 @@ on-init c = record {
   empty = c.requires.empty;
   done = 0;
   total = λ x has. omega (arith, ap (λ (y : Label). y.seconds) (label_same (by_vertex c.args.hierarchy.now.ranks c.args.names.now c.args.labels.now) c.args.top.0 c.requires.top.x x c.requires.top.has has));
-  walks = λ graph a m over start. let same : m ≡ m + 0 = omega arith in subst (λ (n : ℕ). IsUnfolding graph a c.args.top n [] c.args.walk.now) same start;
+  walks = λ graph a m over start. let same : m ≡ m + 0 = omega arith in subst (λ (n : ℕ). IsUnfolding graph a c.args.top n [] c.args.way.now) same start;
 }
 
 pub label_at-requires-clause-label : goal.label_at-requires-clause-label
@@ -58,12 +58,12 @@ on-preserved c =
       done = c.on.invariant.done + arc.seconds;
       total = λ x has. omega (arith, c.on.invariant.total x has, parent.exact, ap (λ (y : Label). y.seconds) same);
       walks = λ graph a m over start.
-          let more : IsUnfolding graph a arc.to (m + c.on.invariant.done + arc.seconds) c.push.new.self.items c.on.walk =
-          unfolding_push graph a c.on.at (m + c.on.invariant.done) arc c.push.new.self.items c.on.walk stack c.arc_down.ensures.from (c.on.invariant.walks graph a m over start) in
+          let more : IsUnfolding graph a arc.to (m + c.on.invariant.done + arc.seconds) c.push.new.self.items c.on.way =
+          unfolding_push graph a c.on.at (m + c.on.invariant.done) arc c.push.new.self.items c.on.way stack c.arc_down.ensures.from (c.on.invariant.walks graph a m over start) in
           let all : m + c.on.invariant.done + arc.seconds ≡ m + (c.on.invariant.done + arc.seconds) = omega arith in
           c.in_ok-unfold.ensures.walks graph a c.label_at.result.parent (m + (c.on.invariant.done + arc.seconds)) over
-          (subst (λ (n : ℕ). IsUnfolding graph a c.label_at.result.parent n c.push.new.self.items c.on.walk) all
-          (subst (λ (v : NodeNo). IsUnfolding graph a v (m + c.on.invariant.done + arc.seconds) c.push.new.self.items c.on.walk) c.arc_down.ensures.to more));
+          (subst (λ (n : ℕ). IsUnfolding graph a c.label_at.result.parent n c.push.new.self.items c.on.way) all
+          (subst (λ (v : NodeNo). IsUnfolding graph a v (m + c.on.invariant.done + arc.seconds) c.push.new.self.items c.on.way) c.arc_down.ensures.to more));
     }
 
 pub returns : goal.returns
@@ -74,6 +74,6 @@ returns c = record {
       subst (λ (v : NodeNo). IsLeast (IsSum (IsArcBack c.args.hierarchy.now.down) c.args.to.0 v.0) c.on.invariant.here.x.seconds) at c.on.invariant.here.least in
       let zero_here = first_zero (IsArcBack c.args.hierarchy.now.down) c.args.to.0 c.on.invariant.here.x.seconds last in
       let all : m + c.on.invariant.done ≡ m + x.seconds = omega (arith, c.on.invariant.total x has, zero_here) in
-      subst (λ (n : ℕ). IsUnfolding graph a c.args.to n [] c.on.walk) all
-      (subst (λ (v : NodeNo). IsUnfolding graph a v (m + c.on.invariant.done) [] c.on.walk) at (c.on.invariant.walks graph a m over start));
+      subst (λ (n : ℕ). IsUnfolding graph a c.args.to n [] c.on.way) all
+      (subst (λ (v : NodeNo). IsUnfolding graph a v (m + c.on.invariant.done) [] c.on.way) at (c.on.invariant.walks graph a m over start));
 }

@@ -15,7 +15,7 @@ invariant-on l = record {
   empty : l.stack.items ≡ [];
   done : ℕ;
   total : (x : Label) → HasLabel (by_vertex l.hierarchy.ranks l.names l.labels) l.fn.top.0 x → here.x.seconds + done ≡ x.seconds;
-  walks : (graph : Streets) (a : NodeNo) (m : ℕ) → IsOver graph l.hierarchy → IsUnfolding graph a l.fn.top m [] l.fn.walk → IsUnfolding graph a l.at (m + done) [] l.walk;
+  walks : (graph : Streets) (a : NodeNo) (m : ℕ) → IsOver graph l.hierarchy → IsUnfolding graph a l.fn.top m [] l.fn.way → IsUnfolding graph a l.at (m + done) [] l.way;
 }
 
 abbrev pub decreases-on : goal.decreases-on

@@ -11,7 +11,7 @@ abbrev pub invariant-arcs : goal.invariant-arcs
 invariant-arcs l = record {
   arcs : All (IsArcOf l.hierarchy) l.stack.items;
   walks : (graph : Streets) (a b : NodeNo) (total : ℕ) → IsOver graph l.hierarchy
-      → IsUnfolding graph a b total l.fn.stack.items l.fn.walk → IsUnfolding graph a b total l.stack.items l.walk;
+      → IsUnfolding graph a b total l.fn.stack.items l.fn.way → IsUnfolding graph a b total l.stack.items l.way;
 }
 
 abbrev pub decreases-arcs : goal.decreases-arcs

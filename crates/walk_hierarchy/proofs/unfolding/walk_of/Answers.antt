@@ -1,6 +1,7 @@
-use Rattle.std.proofs.Common.{◌≡◌, ℕ, List, [], Option, Some, None, true, false, refl, subst}
+use Rattle.std.proofs.Common.{◌≡◌, ℕ, List, [], Option, Some, None, true, false, refl, sym, subst}
 use Rattle.walk_hierarchy.specs.declared.meeting.Meeting.{Meeting}
-use Rattle.walk_hierarchy.specs.Hierarchy.{HasArc, IsUpDownSum}
+use Rattle.move_model.specs.declared.network.NodeNo.{NodeNo}
+use Rattle.walk_hierarchy.specs.Hierarchy.{HasArc, IsUpDownSum, IsWayOver, IsShortestWalk}
 use Rattle.walk_laws.specs.Sums.{IsLeast}
 use Rattle.walk_hierarchy.specs.Meeting.{IsArcBack, IsBest, HasBest}
 use Rattle.walk_hierarchy.specs.declared.labels.Label.{Label}
@@ -67,9 +68,10 @@ returns-clause-walks c = λ graph over.
     let best : IsBest (HasArc h.up) (IsArcBack h.down) c.args.a.0 c.args.b.0 up down meeting =
     subst (λ (r : Option Meeting). HasBest (HasArc h.up) (IsArcBack h.down) c.args.a.0 c.args.b.0 up down r) c.in-Some.is c.requires.best in
     let least : IsLeast (IsUpDownSum h c.args.a c.args.b) meeting.seconds = least_sum h c.args.a c.args.b up down (Some meeting) best in
-    way_over graph h c.args.a c.args.b meeting.seconds c.in_ok-walk.walk least
-    (subst (λ (n : ℕ). IsUnfolding graph c.args.a c.args.b n [] c.in_ok-walk.walk) best.meets.total
-    (c.in_ok-walk.ensures graph best.meets.x best.meets.y over best.meets.there best.meets.back))
+    subst (λ (walk : List NodeNo). IsWayOver graph h c.args.a c.args.b walk) (sym c.into_walk.ensures)
+    (way_over graph h c.args.a c.args.b meeting.seconds c.in_ok-way.way least
+    (subst (λ (n : ℕ). IsUnfolding graph c.args.a c.args.b n [] c.in_ok-way.way) best.meets.total
+    (c.in_ok-way.ensures graph best.meets.x best.meets.y over best.meets.there best.meets.back)))
 
 pub returns-clause-shortest : goal.returns-clause-shortest
 returns-clause-shortest c = λ graph over gives.
@@ -80,6 +82,7 @@ returns-clause-shortest c = λ graph over gives.
     let best : IsBest (HasArc h.up) (IsArcBack h.down) c.args.a.0 c.args.b.0 up down meeting =
     subst (λ (r : Option Meeting). HasBest (HasArc h.up) (IsArcBack h.down) c.args.a.0 c.args.b.0 up down r) c.in-Some.is c.requires.best in
     let least : IsLeast (IsUpDownSum h c.args.a c.args.b) meeting.seconds = least_sum h c.args.a c.args.b up down (Some meeting) best in
-    shortest_walk graph h c.args.a c.args.b meeting.seconds c.in_ok-walk.walk c.requires.a c.requires.b gives least
-    (subst (λ (n : ℕ). IsUnfolding graph c.args.a c.args.b n [] c.in_ok-walk.walk) best.meets.total
-    (c.in_ok-walk.ensures graph best.meets.x best.meets.y over best.meets.there best.meets.back))
+    subst (λ (walk : List NodeNo). IsShortestWalk graph c.args.a c.args.b walk) (sym c.into_walk.ensures)
+    (shortest_walk graph h c.args.a c.args.b meeting.seconds c.in_ok-way.way c.requires.a c.requires.b gives least
+    (subst (λ (n : ℕ). IsUnfolding graph c.args.a c.args.b n [] c.in_ok-way.way) best.meets.total
+    (c.in_ok-way.ensures graph best.meets.x best.meets.y over best.meets.there best.meets.back)))
