@@ -8,3 +8,4 @@ pub mod ReadyTable
 pub mod SecondTable
 pub mod Lasting
 pub mod LabelLemmas
+pub mod FreshLemmas

@@ -1,9 +1,9 @@
 pub mod NeededLemmas
-pub mod StopLemmas
-pub mod WalkLemmas
-pub mod RideLemmas
+pub mod NoneLemmas
+pub mod PartsLemmas
+pub mod RowLemmas
+pub mod AdvanceLemmas
 pub mod OwnLemmas
-pub mod OwnTable
-pub mod StepLemmas
-pub mod ReadLemmas
 pub mod NeededTable
+pub mod SearchLemmas
+pub mod OpenLemmas

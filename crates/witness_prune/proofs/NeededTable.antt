@@ -1,55 +1,100 @@
--- The pairs read off the labels are the needed walks.
-use Rattle.std.proofs.Common.{◌≡◌, ℕ, ◌+◌, ◌≤◌, List, length, subst, arith}
-use Rattle.std.specs.Prelude.{◌↔◌, Contains}
+-- A step adds exactly the needed walks of its stops.
+use Rattle.std.proofs.Common.{◌≡◌, ℕ, ◌+◌, ◌<◌, ◌≤◌, ◌⊎◌, inl, inr, List, [], length, map, refl, sym, ap, subst, ◌∙◌, arith, Some}
+use Rattle.std.proofs.lemmas.List.Elements.{All-get_or}
+use Rattle.std.proofs.lemmas.Option.{slice_get_within, get_or_from_slice_get, same_Some}
+use Rattle.std.specs.Prelude.{◌↔◌, All, Contains, slice_get, slice_index}
 use Rattle.move_model.specs.declared.network.Network.{Network}
 use Rattle.move_model.specs.declared.network.NodeNo.{NodeNo}
 use Rattle.move_model.specs.declared.network.StopNo.{StopNo}
 use Rattle.move_model.specs.declared.network.TripNo.{TripNo}
+use Rattle.move_model.specs.declared.network.Trip.{Trip}
 use Rattle.move_model.specs.declared.network.Call.{Call}
-use Rattle.move_model.specs.Network.{IsNetwork, streets, node_of}
+use Rattle.move_model.specs.Network.{IsNetwork, node_of}
 use Rattle.move_model.specs.Journey.{HasCall}
-use Rattle.pareto_laws.proofs.Walks.{IsWalk-ends}
-use Rattle.route_split.specs.Route.{Route}
-use Rattle.stop_rows.specs.Rows.{Rows}
+use Rattle.move_model.specs.Check.{Stays}
+use Rattle.route_split.specs.Route.{Route, IsRoute}
+use Rattle.route_split.specs.Calls.{HoldsTrips}
+use Rattle.route_split.specs.Routes.{AreRoutes}
+use Rattle.route_split.specs.Table.{Table}
+use Rattle.stop_rows.specs.Rows.{Rows, entry, place_at}
 use Rattle.piece_laws.specs.Pieces.{IsNeeded}
-use Rattle.piece_laws.specs.Tables.{ReadyStands, SecondStands, OwnStands}
-use Rattle.piece_laws.proofs.Read.{read_needed, needed_read}
-use Rattle.two_trip_labels.specs.Closed.{last_second, ArePartsOf, Kept, boarded_at, best_at, IsClosed, IsSound}
-use Rattle.two_trip_labels.proofs.ReadyTable.{stop_exists, ready_table}
-use Rattle.two_trip_labels.proofs.SecondTable.{second_table}
-use Rattle.witness_prune.specs.Own.{own_at}
-use Rattle.witness_prune.specs.Read.{IsReadAt, HasRead}
-use Rattle.witness_prune.specs.Step.{parts_of, AreRowsOf}
-use Rattle.witness_prune.proofs.ReadLemmas.{read_at, read_from}
+use Rattle.piece_laws.specs.Tables.{OwnStands}
+use Rattle.two_trip_labels.specs.Closed.{last_second, ArePartsOf, Kept, IsClosed}
+use Rattle.two_trip_passes.specs.Own.{own_at}
+use Rattle.two_trip_passes.specs.Read.{HasRead}
+use Rattle.two_trip_passes.specs.Step.{parts_of, AreRowsOf, IsReal}
+use Rattle.two_trip_passes.proofs.NeededTable.{labels_read}
+use Rattle.witness_prune.specs.Needed.{Pair}
+use Rattle.witness_prune.specs.Labels.{IsKept, IsDone}
+use Rattle.witness_prune.specs.Scratch.{row_from, parts_at, IsFootFrom, AddsNeeded}
+use Rattle.witness_prune.specs.Search.{AreParts}
+use Rattle.witness_prune.proofs.PartsLemmas.{rows_are, parts_are}
+use Rattle.witness_prune.proofs.RowLemmas.{parts_alike, closed_alike, real_alike, kept_alike}
 
-pub labels_read : (n : Network) (us : List StopNo) (q : NodeNo) (z : ℕ) (routes : List Route) (foot foot_row : List ℕ) (rows : Rows) (own : List ℕ) (k : Kept) → IsNetwork n
-    → ((trip : TripNo) (i : ℕ) (call : Call) → HasCall n trip i call → call.arr ≤ last_second)
-    → ArePartsOf n q (parts_of routes foot foot_row rows) → AreRowsOf n rows → ((u : StopNo) → Contains us u → node_of n u ≡ q) → OwnStands n us z (own_at own)
-    → IsClosed n (parts_of routes foot foot_row rows) z (1 + last_second) k → IsSound n q z (parts_of routes foot foot_row rows) k
-    → (x y : StopNo) → HasRead rows foot z own k.boarded k.best (length rows.places) x y ↔ IsNeeded n us z x y
-labels_read n us q z routes foot foot_row rows own k ok day parts are at owns closed sound x y = (there, back)
+-- what is added to no pair
+pub none_before : (old new : List Pair) (q : Pair) (P : Type 0) → old ≡ [] → Contains new q ↔ (Contains old q ⊎ P) → Contains new q ↔ P
+none_before old new q P none is = (there, back)
   where
-    readies : ReadyStands n q z (1 + last_second) (boarded_at k)
-    readies = ready_table n q z (1 + last_second) (parts_of routes foot foot_row rows) k ok parts (omega arith) closed sound
+    there : Contains new q → P
+    there h = elim (is.0 h) [ inl old_one ↦ let none_is : Contains [] q = subst (λ (ps : List Pair). Contains ps q) none old_one in absurd (omega (arith, none_is.1)) | inr p ↦ p ]
 
-    seconds : SecondStands n q z (1 + last_second) (best_at k)
-    seconds = second_table n q z (1 + last_second) (parts_of routes foot foot_row rows) k ok parts (omega arith) closed sound
+    back : P → Contains new q
+    back p = is.1 (inr p)
 
-    there : HasRead rows foot z own k.boarded k.best (length rows.places) x y → IsNeeded n us z x y
-    there r =
-        read_needed n us q z (1 + last_second) (own_at own) (boarded_at k) (best_at k) ok (omega arith) at owns readies seconds r.stop x y
-        (read_from n q z routes foot foot_row rows own k.boarded k.best ok parts are r.stop x y (omega (arith, r.exists, are.one_each)) r.read)
+module _ (n : Network) (rows : Rows) (table : Table) (parts : AreParts n rows table) where
+  pub all_rows : AreRowsOf n rows
+  all_rows = rows_are n rows parts.rows_are
 
-    back : IsNeeded n us z x y → HasRead rows foot z own k.boarded k.best (length rows.places) x y
-    back d =
-        let piece = d.candidate.is_piece in
-        let v_in = stop_exists n d.v (IsWalk-ends (streets n) ok.streets_join piece.to_end.attained.1) in
-        let early = day d.piece.second.trip d.piece.second.alight d.piece.off2 piece.second_ride.leaves in
-        let r = needed_read n us q z (1 + last_second) (own_at own) (boarded_at k) (best_at k) ok (omega arith) at owns readies seconds d.u d.v d.piece d.leaves d.candidate d.needed (omega (arith, early)) in
+  day : (trip : TripNo) (i : ℕ) (call : Call) → HasCall n trip i call → call.arr ≤ last_second
+  day trip i call has =
+      let t = has.0 in
+      let trip_stays = subst (λ (o : Trip). All Stays o.calls) (get_or_from_slice_get n.trips trip.0 t t has.1)
+      (All-get_or (λ (o : Trip). All Stays o.calls) n.trips trip.0 t (slice_get_within n.trips trip.0 t has.1) parts.rules.within_day) in
+      let stays = subst Stays (get_or_from_slice_get t.calls i call call has.2) (All-get_or Stays t.calls i call (slice_get_within t.calls i call has.2) trip_stays) in
+      omega (arith, stays.0, stays.1)
+
+  -- a stop of the place stands at its vertex
+  pub stands_at : (place : ℕ) (q : NodeNo) (u : StopNo) → slice_get rows.nodes place ≡ Some q → u.0 < length n.stops → place_at rows u ≡ place → node_of n u ≡ q
+  stands_at place q u here within at =
+      same_Some (node_of n u) q (sym (parts.rows_are.places.stands u within) ∙ ap (λ (p : ℕ). slice_get rows.nodes p) at ∙ here)
+
+  module _ (routes : List Route) (same : routes ≡ table.routes) (whole : All (IsRoute (length n.stops)) routes)
+      (q : NodeNo) (place : ℕ) (here : slice_get rows.nodes place ≡ Some q) (foot : List ℕ) (on_foot : IsFootFrom rows place foot) where
+    pub place_parts : ArePartsOf n q (parts_at routes rows place foot)
+    place_parts =
+        parts_are n rows parts.rows_are q routes foot (row_from rows place) place here
+        (subst (λ (rs : List Route). HoldsTrips n.trips rs) (sym same) parts.table_is.holds)
+        (subst (λ (rs : List Route). AreRoutes n.trips (map (λ (r : Route). r.trips) rs)) (sym same) parts.routes_are) whole
+        (λ x within. on_foot.each x.0 (omega (arith, within, all_rows.one_each))) (λ p within. refl)
+
+    pub step_done : (lent row : List ℕ) (second z : ℕ) (k k' : Kept) → lent ≡ foot → ((p : ℕ) → p < length rows.nodes → slice_index row p ≡ entry rows place p)
+        → ((n : Network) (q : NodeNo) (z : ℕ) → IsNetwork n → n.buffer ≡ table.buffer → AreRowsOf n rows → ArePartsOf n q (parts_of routes lent row rows) → second ≤ z
+        → IsKept n q z (parts_of routes lent row rows) k → IsDone n q second (parts_of routes lent row rows) k')
+        → second ≤ z → IsKept n q z (parts_at routes rows place foot) k → IsDone n q second (parts_at routes rows place foot) k'
+    step_done lent row second z k k' e entries advance le kept =
+        let goes = subst (λ (xs : List ℕ). (n : Network) (q : NodeNo) (z : ℕ) → IsNetwork n → n.buffer ≡ table.buffer → AreRowsOf n rows → ArePartsOf n q (parts_of routes xs row rows) → second ≤ z
+        → IsKept n q z (parts_of routes xs row rows) k → IsDone n q second (parts_of routes xs row rows) k') e advance in
+        let back = λ (p : ℕ). λ (l : p < length rows.nodes). sym (entries p l) in
+        let d = goes n q z parts.rules.network (sym parts.table_is.buffer_is) all_rows
+        (parts_alike n q routes foot rows all_rows (row_from rows place) row entries place_parts) le
+        (kept_alike n q routes foot rows all_rows (row_from rows place) row entries z k kept) in
         record {
-          stop = d.v;
-          exists = omega (arith, v_in, are.one_each);
-          read = subst (λ (s : StopNo). IsReadAt rows foot z own k.boarded k.best d.v s y) d.from_is
-              (subst (λ (s : StopNo). IsReadAt rows foot z own k.boarded k.best d.v d.piece.off1.stop s) d.to_is
-              (read_at n q z routes foot foot_row rows own k.boarded k.best ok parts are d.v d.piece.off1.stop d.piece.on2.stop v_in r));
+          real = real_alike n q routes foot rows all_rows row (row_from rows place) back second k' d.real;
+          closed = λ h. closed_alike n q routes foot rows all_rows row (row_from rows place) back second h k' (d.closed h);
         }
+
+    pub step_adds : (us : List StopNo) (z : ℕ) (own : List ℕ) (k : Kept) (needed pairs needed' : List Pair)
+        → ((u : StopNo) → Contains us u → node_of n u ≡ q) → OwnStands n us z (own_at own)
+        → IsClosed n (parts_at routes rows place foot) z (1 + last_second) k → IsReal n q z (parts_at routes rows place foot) k
+        → ((p : Pair) → Contains pairs p ↔ HasRead rows foot z own k.boarded k.best (length rows.places) p.0 p.1)
+        → ((p : Pair) → Contains needed' p ↔ (Contains needed p ⊎ Contains pairs p)) → AddsNeeded n us z needed needed'
+    step_adds us z own k needed pairs needed' at owns closed real read all x y = (there, back)
+      where
+        exact : HasRead rows foot z own k.boarded k.best (length rows.places) x y ↔ IsNeeded n us z x y
+        exact = labels_read n us q z routes foot (row_from rows place) rows own k parts.rules.network day place_parts all_rows at owns closed real.sound x y
+
+        there : Contains needed' (x, y) → Contains needed (x, y) ⊎ IsNeeded n us z x y
+        there h = elim ((all (x, y)).0 h) [ inl old ↦ inl old | inr new ↦ inr (exact.0 ((read (x, y)).0 new)) ]
+
+        back : Contains needed (x, y) ⊎ IsNeeded n us z x y → Contains needed' (x, y)
+        back h = elim h [ inl old ↦ (all (x, y)).1 (inl old) | inr new ↦ (all (x, y)).1 (inr ((read (x, y)).1 (exact.1 new))) ]

@@ -1,7 +1,5 @@
 pub mod Needed
-pub mod Stops
-pub mod Walks
-pub mod Rides
-pub mod Own
-pub mod Step
-pub mod Read
+pub mod Labels
+pub mod Scratch
+pub mod Search
+pub mod TwoTrip

@@ -1,25 +1,21 @@
-//! Parts of the search for needed walks between two rides.
+//! The search for needed walks between two rides.
+//!
+//! A passenger sets out from a stop, rides, walks, and rides again. The walk is needed where no other journey with at most
+//! two rides does as well. The search goes from the latest second of a place to its earliest, and keeps its labels from
+//! step to step: what is true from a second is true from every earlier one.
 //!
 //! - [`Needed`] keeps the pairs of stops that were found, in rising order, each once.
-//! - [`board_all`] boards first rides from all stops, after the walks from where the passenger sets out.
-//! - [`walk_all`] walks on from all stops where first rides are left.
-//! - [`ride_all`] boards second rides from all stops where the passenger is ready earlier than before.
-//! - [`read_all`] reads needed walks off the labels.
-//! - [`own_all`] puts down the least arrivals of the rides from the stops themselves.
+//! - [`TwoTrip`] is the search from one stop.
+//! - [`Search`] is the search from all stops of a place, over a table of distances that its caller keeps.
 #![tactic(auto)]
 
-mod laws;
+mod labels;
 mod needed;
-mod own;
-mod read;
-mod rides;
-mod stops;
-mod walks;
+mod open;
+mod scratch;
+mod search;
+mod two_trip;
 
-pub use laws::{labels_read, own_stands, passes_close, real_last, rides_real, walks_real};
 pub use needed::Needed;
-pub use own::own_all;
-pub use read::read_all;
-pub use rides::ride_all;
-pub use stops::board_all;
-pub use walks::walk_all;
+pub use search::Search;
+pub use two_trip::TwoTrip;

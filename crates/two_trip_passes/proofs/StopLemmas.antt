@@ -1,0 +1,73 @@
+-- The calls at a stop.
+use Rattle.std.proofs.Common.{◌≡◌, ℕ, ◌+◌, ◌<◌, List, length, get_or, sym, ap, subst, ◌∙◌, inl, inr, arith, Some}
+use Rattle.std.proofs.lemmas.Bool.{cases_lt}
+use Rattle.std.proofs.lemmas.List.{get_or_default}
+use Rattle.std.proofs.lemmas.List.Elements.{All-contains, All-get_or}
+use Rattle.std.proofs.lemmas.Option.{slice_get_within, get_or_from_slice_get, same_Some}
+use Rattle.std.specs.Prelude.{All, slice_get, slice_index}
+use Rattle.route_split.specs.declared.place.Place.{Place}
+use Rattle.route_split.specs.declared.place.RouteCall.{RouteCall}
+use Rattle.route_split.specs.Route.{Route, IsRoute}
+use Rattle.route_split.specs.Table.{LendsCalls, CallsAt}
+use Rattle.piece_laws.specs.Tables.{never}
+use Rattle.two_trip_rides.specs.First.{Source}
+use Rattle.two_trip_rides.proofs.TimesLemmas.{departs_before}
+use Rattle.two_trip_labels.specs.First.{IsCallOf, IsCallBoarded, MayBoardCall, RowsFall}
+use Rattle.two_trip_passes.specs.Stops.{IsStopBoarded, IsFootOf}
+
+pub call_here : (routes : List Route) (x : ℕ) (calls : List RouteCall) (k : ℕ) (d : RouteCall) → LendsCalls routes x calls → k < length calls
+    → CallsAt routes x (get_or calls k d).route (get_or calls k d).call
+call_here routes x calls k d lends low =
+    let c = get_or calls k d in
+    (lends c.route c.call).0 (k, low, get_or_default calls k c d low)
+
+pub calls_exist : (routes : List Route) (x : ℕ) (calls : List RouteCall) → LendsCalls routes x calls → All (IsCallOf routes) calls
+calls_exist routes x calls lends k d low =
+    let at = call_here routes x calls k d lends low in
+    record { route = at.route; is_route = at.is_route; exists = slice_get_within at.route.places (get_or calls k d).call at.place at.is_place }
+
+pub stop_boarded : (routes : List Route) (wanted : ℕ) (rows : List (List ℕ)) (x : ℕ) (calls : List RouteCall) → LendsCalls routes x calls
+    → All (IsCallBoarded routes wanted rows) calls → IsStopBoarded routes wanted rows x
+stop_boarded routes wanted rows x calls lends all = record {
+  each = λ r i row route on is at here may more within late.
+      let has = (lends r i).1 (record { route = route; place = on; is_route = is; is_place = at; at_stop = here }) in
+      (All-contains (IsCallBoarded routes wanted rows) calls (record { route = r; call = i }) all has).each row route on is at may more within late;
+}
+
+pub boarded_falls : (routes : List Route) (wanted : ℕ) (rows rows' : List (List ℕ)) (x : ℕ) → RowsFall rows rows' → IsStopBoarded routes wanted rows x → IsStopBoarded routes wanted rows' x
+boarded_falls routes wanted rows rows' x falls b = record {
+  each = λ r i row route on is at here may more within late. omega (arith, (falls.each r).each i, b.each r i row route on is at here may more within late);
+}
+
+pub boarded_more : (routes : List Route) (wanted : ℕ → ℕ) (rows rows' : List (List ℕ)) (m : ℕ) → RowsFall rows rows' → ((x : ℕ) → x < m → IsStopBoarded routes (wanted x) rows x)
+    → IsStopBoarded routes (wanted m) rows' m → (x : ℕ) → x < m + 1 → IsStopBoarded routes (wanted x) rows' x
+boarded_more routes wanted rows rows' m falls was this x low = elim (cases_lt x m) [
+  | inl l ↦ boarded_falls routes (wanted x) rows rows' x falls (was x l)
+  | inr g ↦ subst (λ (y : ℕ). IsStopBoarded routes (wanted y) rows' y) (let e : m ≡ x = omega arith in e) this
+]
+
+-- a row that departs after the walk may be boarded
+pub may_board : (s : Source) (routes : List Route) (stops x wanted : ℕ) (foot : List ℕ) (calls : List RouteCall) → LendsCalls routes x calls → All (IsRoute stops) routes
+    → IsFootOf s foot → x < length foot → s.second + slice_index foot x + s.network.buffer ≡ wanted → All (MayBoardCall s routes wanted) calls
+may_board s routes stops x wanted foot calls lends whole walks within is k d low = record {
+  each = λ route got on p at may late.
+      let c = get_or calls k d in
+      let h = call_here routes x calls k d lends low in
+      let same : h.route ≡ route = same_Some h.route route (sym h.is_route ∙ got) in
+      let at' : slice_get route.places c.call ≡ Some h.place = subst (λ (r : Route). slice_get r.places c.call ≡ Some h.place) same h.is_place in
+      let here : on.stop.0 ≡ x = ap (λ (q : Place). q.stop.0) (same_Some on h.place (sym at ∙ at')) ∙ h.at_stop in
+      let good : IsRoute stops route = subst (λ (r : Route). IsRoute stops r) (get_or_from_slice_get routes c.route route route got) (All-get_or (IsRoute stops) routes c.route route (slice_get_within routes c.route route got) whole) in
+      let early = departs_before stops route c.call p good in
+      let some : slice_index foot on.stop.0 < never = subst (λ (y : ℕ). slice_index foot y < never) (sym here) (omega arith) in
+      let w : slice_index foot on.stop.0 ≡ slice_index foot x = ap (λ (y : ℕ). slice_index foot y) here in
+      record {
+        at = c.call;
+        by = omega arith;
+        on = on;
+        is_place = at;
+        may_board = may;
+        walk = slice_index foot on.stop.0;
+        to_it = walks.each on.stop (omega arith) some;
+        in_time = omega (arith, w, is, late);
+      };
+}

@@ -1,0 +1,6 @@
+pub mod Stops
+pub mod Walks
+pub mod Rides
+pub mod Own
+pub mod Step
+pub mod Read

@@ -1,0 +1,142 @@
+// Reading needed walks off the labels.
+ghost use Rattle.std.specs.Prelude.{◌≡◌, ◌<◌, ◌≤◌, ◌+◌, ◌⊎◌, ◌↔◌, ℕ, IsTrue, Contains, length, vec_len, vec_capacity};
+ghost use Rattle.move_model.specs.declared.network.StopNo.{StopNo};
+ghost use Rattle.two_trip_passes.specs.Own.{own_at};
+ghost use Rattle.two_trip_passes.specs.Read.{Pair, IsNear, HasNear, IsReadAt, IsOwnKey, IsReadable, HasRead};
+
+use move_model::StopNo;
+use piece_laws::{Ready, Second};
+use stop_rows::StopRows;
+use two_trip_rides::NEVER;
+
+// The last second at which a ride may be left.
+const LAST_SECOND: u32 = 3_599_999;
+
+// Whether two rides to a stop, and the walk from there, are earlier than a second ride that is left at a place.
+fn is_near(rows: &StopRows, stop: u32, place: u32, arrive: u32, best: &[Second]) -> bool
+    requires stop { stop < length rows.now.places }
+    requires place { place < length rows.now.nodes }
+    requires best { length best.now ≡ length rows.now.places }
+    ensures { IsTrue result ↔ IsNear rows.now best.now (record { 0 = stop }) place arrive }
+{
+    let left = best[stop as usize].a2;
+    let row = rows.row(rows.place(StopNo(stop)));
+    let reached = left as u64 + row[place as usize] as u64;
+    if reached != arrive as u64 {
+        return reached < arrive as u64;
+    }
+    left < arrive
+}
+
+// Whether two rides to some stop, and the walk from there, are so.
+fn has_near(rows: &StopRows, place: u32, arrive: u32, best: &[Second]) -> bool
+    requires place { place < length rows.now.nodes }
+    requires best { length best.now ≡ length rows.now.places }
+    ensures { IsTrue result ↔ HasNear rows.now best.now place arrive }
+{
+    for stop in 0..rows.stops() {
+        if is_near(rows, stop, place, arrive, best) {
+            return true;
+        }
+    }
+    false
+}
+
+// What is known of a stop, or none past the end.
+fn own_of(own: &[u32], stop: u32) -> u32
+    ensures { result ≡ own_at own.now (record { 0 = stop }) }
+{
+    if (stop as usize) < own.len() {
+        own[stop as usize]
+    } else {
+        NEVER
+    }
+}
+
+// Whether a label at a stop is that of a first ride of the start itself, and neither a walk nor one ride is as early.
+fn is_own(key: Second, stop: u32, second: u32, foot: &[u32], own: &[u32], boarded: &[Ready]) -> bool
+    requires foot { stop < length foot.now }
+    requires boarded { stop < length boarded.now }
+    ensures { IsTrue result ↔ IsOwnKey foot.now second own.now boarded.now (record { 0 = stop }) key }
+{
+    if key.a2 > LAST_SECOND || key.label.c == 0 {
+        return false;
+    }
+    if own_of(own, key.label.c - 1) != key.label.a1 {
+        return false;
+    }
+    let at = stop as usize;
+    key.a2 < boarded[at].ready && (key.a2 as u64) < second as u64 + foot[at] as u64
+}
+
+// Whether the labels say at a stop that a walk is needed.
+fn is_read(
+    rows: &StopRows,
+    stop: u32,
+    second: u32,
+    foot: &[u32],
+    own: &[u32],
+    boarded: &[Ready],
+    best: &[Second],
+) -> bool
+    requires stop { stop < length rows.now.places }
+    requires foot { length foot.now ≡ length rows.now.places }
+    requires boarded { length boarded.now ≡ length rows.now.places }
+    requires best { length best.now ≡ length rows.now.places }
+    ensures { IsTrue result ↔ IsReadable rows.now foot.now second own.now boarded.now best.now (record { 0 = stop }) }
+{
+    let key = best[stop as usize];
+    if !is_own(key, stop, second, foot, own, boarded) {
+        return false;
+    }
+    let near = has_near(rows, rows.place(StopNo(stop)), key.a2, best);
+    !near
+}
+
+// Adds the pair that the labels say at a stop, if there is one; there is room for it.
+fn read_stop(
+    rows: &StopRows,
+    stop: u32,
+    second: u32,
+    foot: &[u32],
+    own: &[u32],
+    boarded: &[Ready],
+    best: &[Second],
+    pairs: &mut Vec<(StopNo, StopNo)>,
+)
+    requires stop { stop < length rows.now.places }
+    requires foot { length foot.now ≡ length rows.now.places }
+    requires boarded { length boarded.now ≡ length rows.now.places }
+    requires best { length best.now ≡ length rows.now.places }
+    requires room { vec_len pairs.old < vec_capacity pairs.old }
+    ensures pairs { (q : Pair) → Contains pairs.new.items q ↔ (Contains pairs.old.items q ⊎ IsReadAt rows.now foot.now second own.now boarded.now best.now (record { 0 = stop }) q.0 q.1) }
+    ensures capacity { vec_capacity pairs.old ≤ vec_capacity pairs.new }
+    ensures len { vec_len pairs.new ≤ vec_len pairs.old + 1 }
+{
+    if is_read(rows, stop, second, foot, own, boarded, best) {
+        let key = best[stop as usize];
+        pairs.push_reserved((StopNo(key.label.c - 1), StopNo(key.y)));
+    }
+}
+
+/// Adds the pairs that the labels say at all stops; there is room for one of each.
+pub fn read_all(
+    rows: &StopRows,
+    second: u32,
+    foot: &[u32],
+    own: &[u32],
+    boarded: &[Ready],
+    best: &[Second],
+    pairs: &mut Vec<(StopNo, StopNo)>,
+)
+    requires foot { length foot.now ≡ length rows.now.places }
+    requires boarded { length boarded.now ≡ length rows.now.places }
+    requires best { length best.now ≡ length rows.now.places }
+    requires room { vec_len pairs.old + length rows.now.places ≤ vec_capacity pairs.old }
+    ensures pairs { (q : Pair) → Contains pairs.new.items q ↔ (Contains pairs.old.items q ⊎ HasRead rows.now foot.now second own.now boarded.now best.now (length rows.now.places) q.0 q.1) }
+    ensures capacity { vec_capacity pairs.old ≤ vec_capacity pairs.new }
+{
+    for stop in 0..rows.stops() {
+        read_stop(rows, stop, second, foot, own, boarded, best, pairs);
+    }
+}

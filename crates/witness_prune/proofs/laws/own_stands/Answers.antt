@@ -1,5 +1,0 @@
-use Rattle.witness_prune.proofs.OwnTable.{own_table}
-use Rattle.witness_prune.proofs.laws.own_stands.Goals as goal
-
-pub returns : goal.returns
-returns c = λ n us z routes own holds. own_table n us z routes holds own

@@ -1,5 +1,0 @@
-use Rattle.witness_prune.proofs.StepLemmas.{closed_again}
-use Rattle.witness_prune.proofs.laws.passes_close.Goals as goal
-
-pub returns : goal.returns
-returns c = λ n q z h routes foot foot_row rows. closed_again n q z routes foot foot_row rows h
