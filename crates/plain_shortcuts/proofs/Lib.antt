@@ -1,0 +1,5 @@
+mod Lists
+mod RideLemmas
+mod ChangeLemmas
+mod NeededLemmas
+mod OrderLemmas

@@ -1,0 +1,5 @@
+pub mod Rides
+pub mod Walks
+pub mod Changes
+pub mod Needed
+pub mod Listed
