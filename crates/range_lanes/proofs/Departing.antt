@@ -40,7 +40,10 @@ module _ (table : Table) (first last : List (Option ℕ)) (list : List Shortcut)
     each = λ on p at may lt in_time.
         let same : place ≡ on = same_Some place on (sym at_place ∙ at) in
         elim (cases_eq (slice_index (departures_of route i) p) (d + boards.0 + table.buffer)) [
-          | inl e ↦ unmarked _ (marks.each r i boards.0 p route place at_route at_place (subst (λ (v : Place). IsTrue v.board) (sym same) may) lt boards.1 e) skip _
+          | inl e ↦ elim (cases_lt (i + 1) (length route.places)) [
+            | inl more ↦ unmarked _ (marks.each r i boards.0 p route place at_route at_place (subst (λ (v : Place). IsTrue v.board) (sym same) may) more lt boards.1 e) skip _
+            | inr ends ↦ inr (record { each = λ j off after at_off may_off. absurd (omega (arith, ends, after, slice_get_within route.places j off at_off)) })
+          ]
           | inr other ↦
               (((closed.each 0 level is).followed).each r i (d + 1 + boards.0) route place at_route at_place (boards.0, boards.1, refl)).each on p at may lt
               (omega (arith, in_time, boards.2, other))

@@ -7,7 +7,7 @@
 --     AreSound q levels                    each level is sound
 --     ServedAt levels k x a                a label at stop x, or a best arrival, of one of the levels up to the k-th is no later than a
 --     IsChain levels k y rides             the rides to the label of stop y at the k-th level, the last first
---     MarksSeeds table first d seeds       each stop where a row is just caught by who leaves at second d is marked
+--     MarksSeeds table first d seeds       each stop where a row that goes on is just caught by who leaves at second d is marked
 --     IsBlank stops level                  the level tells of no journey
 use Rattle.std.specs.Prelude.{◌≡◌, ℕ, suc, ◌+◌, ◌-◌, ◌^◌, ◌<◌, ◌≤◌, Bool, true, false, IsTrue, List, [], ◌∷◌, length, take, slice_get, slice_index, slice_index_or, Option, Some, None}
 use Rattle.move_model.specs.declared.network.StopNo.{StopNo}
@@ -73,7 +73,7 @@ pub record IsBetween (table : Table) (first last : List (Option ℕ)) (list : Li
 -- who leaves one second later misses these rows
 pub record MarksSeeds (table : Table) (first : List (Option ℕ)) (d : ℕ) (seeds : List Bool) : Type 0 where
   pub each : (r i m p : ℕ) (route : Route) (place : Place) → slice_get table.routes r ≡ Some route → slice_get route.places i ≡ Some place
-      → IsTrue place.board → p < length route.trips → slice_get first place.stop.0 ≡ Some (Some m)
+      → IsTrue place.board → i + 1 < length route.places → p < length route.trips → slice_get first place.stop.0 ≡ Some (Some m)
       → slice_index (departures_of route i) p ≡ d + m + table.buffer → slice_index_or seeds place.stop.0 false ≡ true
 
 pub record IsBlank (stops : ℕ) (level : Level) : Type 0 where

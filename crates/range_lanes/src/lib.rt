@@ -4,11 +4,11 @@
 //! of them catches no ride that is missed from the later of the two. So a search over a range looks at these seconds
 //! alone, from the latest to the earliest.
 //!
-//! The search itself is not built yet. Its parts so far are a level of labels for each number of rides, which only fall
-//! from second to second; rides and transfers that lower them; all rounds at one second; the rows of the routes that a
-//! group of departures has opened; and the laws by which such levels are right: whatever they hold is a listed journey,
-//! where nothing more comes of them no listed journey is better, and what they hold at a second they hold at the second
-//! before, but for rides that are just caught there.
+//! A search keeps a [`Level`] of labels for each number of rides. Labels only fall from second to second: what a later
+//! departure reaches an earlier one reaches too. [`rounds`] does all rounds at one second, over the rows of the routes that
+//! a group of departures has opened ([`LentRows`]). Whatever the levels hold is a listed journey, and where nothing more
+//! comes of them no listed journey is better; what they hold at a second they hold at the second before, but for rides
+//! that are just caught there.
 #![tactic(auto)]
 
 mod hits;
@@ -16,9 +16,13 @@ mod lent;
 mod level;
 mod ride;
 mod round;
-mod rounds;
 mod scan;
+mod seconds;
 mod stack;
 mod walk;
 
 pub use hits::departures;
+pub use lent::LentRows;
+pub use level::{Level, NEVER, Step};
+pub use seconds::rounds;
+pub use stack::{clear_levels, new_levels};

@@ -56,3 +56,13 @@ fn clear_level(level: &mut Level)
     level.ready.as_mut_slice().fill(NEVER);
     level.best = u64::MAX;
 }
+
+/// Forgets all journeys.
+pub fn clear_levels(levels: &mut [Level])
+    ensures blank { (stops : ℕ) → All (Fits stops) levels.old → All (IsBlank stops) levels.new }
+    ensures many { length levels.new ≡ length levels.old }
+{
+    for k in 0..levels.len() {
+        clear_level(&mut levels[k]);
+    }
+}

@@ -6,7 +6,7 @@ use Rattle.range_lanes.specs.declared.level.Level.{Level}
 use Rattle.range_lanes.specs.Levels.{Fits}
 use Rattle.range_lanes.specs.State.{IsBetween, AreSound}
 use Rattle.range_lanes.proofs.Rounding.{round_slice, sound_slice}
-use Rattle.range_lanes.proofs.rounds.round.Goals as goal
+use Rattle.range_lanes.proofs.seconds.round.Goals as goal
 
 pub returns-clause-between : goal.returns-clause-between
 returns-clause-between g c was =

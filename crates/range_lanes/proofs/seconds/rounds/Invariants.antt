@@ -5,7 +5,7 @@ use Rattle.raptor_rounds.specs.Ways.{Query}
 use Rattle.range_lanes.specs.Levels.{Fits}
 use Rattle.range_lanes.specs.Lent.{IsLentBy, lent_count}
 use Rattle.range_lanes.specs.State.{IsBetween, AreSound}
-use Rattle.range_lanes.proofs.rounds.rounds.Given as goal
+use Rattle.range_lanes.proofs.seconds.rounds.Given as goal
 
 abbrev pub invariant-loop-k : goal.invariant-loop-k
 invariant-loop-k g l = record {

@@ -1,6 +1,6 @@
 use Rattle.std.proofs.Common.{arith}
 use Rattle.range_lanes.proofs.Rounding.{between_closed}
-use Rattle.range_lanes.proofs.rounds.rounds.Goals as goal
+use Rattle.range_lanes.proofs.seconds.rounds.Goals as goal
 
 pub loop-k-preserved : goal.loop-k-preserved
 loop-k-preserved g c =

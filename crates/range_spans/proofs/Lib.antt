@@ -1,0 +1,4 @@
+pub mod Steady
+pub mod Closes
+pub mod Steps
+pub mod Loop
