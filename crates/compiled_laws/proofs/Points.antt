@@ -9,12 +9,12 @@ use Rattle.move_model.specs.declared.journey.Finding.{Finding}
 use Rattle.move_model.specs.Streets.{IsVertex, IsDistance, HasDistance}
 use Rattle.move_model.specs.Network.{streets}
 use Rattle.move_model.specs.Journey.{Travels}
-use Rattle.journey_build.specs.Built.{IsLeastWalk, IsLeastWay}
+use Rattle.move_model.specs.Found.{IsLeastWalk, IsFound, IsPointAnswer}
+use Rattle.journey_build.specs.Built.{IsLeastWay}
 use Rattle.journey_build.proofs.BrokenLaws.{least_walk}
 use Rattle.network_file.specs.declared.compiled.Compiled.{Compiled}
 use Rattle.network_file.specs.Compiled.{IsRight}
 use Rattle.network_file.specs.Answers.{Sums, AreLeastSums, IsListedPair, Attains, IsMade, IsLeftOut, IsListedPoint, pairs_of}
-use Rattle.compiled_laws.specs.Exact.{IsExact, IsExactPoint}
 use Rattle.compiled_laws.proofs.Rows.{is_network, foot_is, last_holds, suffice}
 use Rattle.compiled_laws.proofs.Best.{best_listed, listed_best}
 use Rattle.compiled_laws.proofs.Travelling.{by_least_walks, arrives_as_listed, arrives_on_foot}
@@ -44,7 +44,7 @@ module _ (c : Compiled) (right : IsRight c) (s t : NodeNo) (at_s : IsVertex (str
   many_rides d rs pair (inl (no_ride, foot)) = ap length no_ride ∙ sym foot.no_trip
   many_rides d rs pair (inr (listed, many)) = many
 
-  pub made_exact : (d : ℕ) (finding : Finding) → IsMade c sums s d t finding → IsExact c.network s d t finding
+  pub made_exact : (d : ℕ) (finding : Finding) → IsMade c sums s d t finding → IsFound c.network s d t finding
   made_exact d finding made =
       let walks : All (IsLeastWalk (streets c.network)) finding.journey.walks =
       All-weaker (IsLeastWay (streets c.network) c.hierarchy) (IsLeastWalk (streets c.network))
@@ -57,7 +57,7 @@ module _ (c : Compiled) (right : IsRight c) (s t : NodeNo) (at_s : IsVertex (str
             subst (λ (a : ℕ). Travels c.network s finding.journey.depart finding.journey.walks finding.journey.rides t a)
             (arrives d made.built.arrive finding.journey.rides finding.journey.walks finding.pair at_d walks made.attains) made.built.leads;
         rides = many_rides d finding.journey.rides finding.pair made.attains;
-        walks = walks;
+        least_walks = walks;
       }
 
   module _ (d limit : ℕ) (found : List Finding) where
@@ -66,7 +66,7 @@ module _ (c : Compiled) (right : IsRight c) (s t : NodeNo) (at_s : IsVertex (str
     not_out pair (inr out) = absurd (none_left_out d pair out)
 
 pub point_exact : (c : Compiled) (s t : NodeNo) (d limit : ℕ) (found : List Finding) → IsRight c → IsVertex (streets c.network) s → IsVertex (streets c.network) t
-    → IsListedPoint c s d t limit found → IsExactPoint c.network s d t limit found
+    → IsListedPoint c s d t limit found → IsPointAnswer c.network s d t limit found
 point_exact c s t d limit found right at_s at_t is =
     let enough = suffice c right s t at_s at_t is.sums is.least in
     let foot = foot_is c right s t at_s at_t is.sums is.least in
@@ -80,5 +80,5 @@ point_exact c s t d limit found right at_s at_t is =
         );
         rising = is.rising;
       };
-      real = All-weaker (IsMade c is.sums s d t) (IsExact c.network s d t) (made_exact c right s t at_s at_t is.sums is.least d) found is.made;
+      real = All-weaker (IsMade c is.sums s d t) (IsFound c.network s d t) (made_exact c right s t at_s at_t is.sums is.least d) found is.made;
     }

@@ -10,12 +10,11 @@ use Rattle.move_model.specs.declared.journey.SpanFinding.{SpanFinding}
 use Rattle.move_model.specs.Streets.{IsVertex, HasDistance}
 use Rattle.move_model.specs.Network.{streets}
 use Rattle.move_model.specs.Range.{HasSpanPair, IsOffered, IsSpanWithin, IsRange, without_rides, pair_of}
-use Rattle.move_model.specs.Found.{span_of}
+use Rattle.move_model.specs.Found.{IsFound, IsRangeAnswer, span_of}
 use Rattle.pareto_laws.proofs.RangeByListed.{range_by_listed_lem}
 use Rattle.network_file.specs.declared.compiled.Compiled.{Compiled}
 use Rattle.network_file.specs.Compiled.{IsRight}
 use Rattle.network_file.specs.Answers.{IsMade, IsLeftOut, IsListedSpans, outlines}
-use Rattle.compiled_laws.specs.Exact.{IsExact, IsExactSpans}
 use Rattle.compiled_laws.proofs.Lists.{Contains-map, All-from_contains, image_of}
 use Rattle.compiled_laws.proofs.Rows.{foot_is, suffice}
 use Rattle.compiled_laws.proofs.Points.{none_left_out, made_exact}
@@ -48,7 +47,7 @@ within_outline first last a b same is =
 
 pub range_exact : (c : Compiled) (s t : NodeNo) (limit first last : ℕ) (foot : Option Finding) (spans : List SpanFinding)
     → IsRight c → IsVertex (streets c.network) s → IsVertex (streets c.network) t
-    → IsListedSpans c s t limit first last foot spans → IsExactSpans c.network s t limit first last foot spans
+    → IsListedSpans c s t limit first last foot spans → IsRangeAnswer c.network s t limit first last foot spans
 range_exact c s t limit first last foot spans right at_s at_t is =
     let enough = suffice c right s t at_s at_t is.sums is.least in
     let far = foot_is c right s t at_s at_t is.sums is.least in
@@ -82,10 +81,10 @@ range_exact c s t limit first last foot spans right at_s at_t is =
       };
       on_foot = is.no_trip;
       foot_real = foot_exact foot is.foot_made;
-      real = All-weaker (λ f. IsMade c is.sums s f.last t f.finding) (λ f. IsExact c.network s f.last t f.finding)
+      real = All-weaker (λ f. IsMade c is.sums s f.last t f.finding) (λ f. IsFound c.network s f.last t f.finding)
           (λ f made. made_exact c right s t at_s at_t is.sums is.least f.last f.finding made) spans is.made;
     }
   where
-    foot_exact : (o : Option Finding) → IfSome o (IsMade c is.sums s first t) → IfSome o (IsExact c.network s first t)
+    foot_exact : (o : Option Finding) → IfSome o (IsMade c is.sums s first t) → IfSome o (IsFound c.network s first t)
     foot_exact None made = made
     foot_exact (Some finding) made = made_exact c right s t at_s at_t is.sums is.least first finding made

@@ -5,6 +5,7 @@ use Rattle.move_model.specs.Streets.{IsVertex, HasDistance}
 use Rattle.move_model.specs.Network.{IsNetwork, streets}
 use Rattle.move_model.specs.Listed.{HoldsFirst, HoldsLast, ListedSuffice}
 use Rattle.pareto_laws.proofs.ListedJourneys.{listed_suffice}
+use Rattle.pareto_laws.proofs.ShortcutsSuffice.{shortcuts_suffice, shortcuts_hold_distances}
 use Rattle.network_file.specs.declared.compiled.Compiled.{Compiled}
 use Rattle.network_file.specs.Compiled.{IsRight}
 use Rattle.network_file.specs.Answers.{Sums, AreLeastSums}
@@ -32,4 +33,6 @@ module _ (c : Compiled) (right : IsRight c) (s t : NodeNo) (at_s : IsVertex (str
   }
 
   pub suffice : ListedSuffice c.network s t sums.first sums.last c.shortcuts
-  suffice = listed_suffice c.network is_network c.shortcuts right.distances s t sums.first sums.last first_holds last_holds right.suffices
+  suffice =
+      listed_suffice c.network is_network c.shortcuts (shortcuts_hold_distances c.network c.shortcuts right.shortcuts) s t sums.first sums.last first_holds last_holds
+      (shortcuts_suffice c.network c.shortcuts is_network right.shortcuts)

@@ -20,7 +20,7 @@ use Rattle.pareto_laws.proofs.Calls.{off_same, off_stands}
 use Rattle.pareto_laws.proofs.Walks.{walk_first, walk_last, walk_same, IsWalk-begins, IsWalk-ends}
 use Rattle.pareto_laws.proofs.Distances.{distance_same, distance_within}
 use Rattle.walk_hierarchy.specs.Hierarchy.{Parts, GivesDistances}
-use Rattle.journey_build.specs.Built.{IsLeastWalk}
+use Rattle.move_model.specs.Found.{IsLeastWalk}
 use Rattle.network_file.specs.Answers.{HasLeastSum}
 
 module _ (n : Network) (ok : IsNetwork n) where
@@ -80,12 +80,12 @@ module _ (n : Network) (ok : IsNetwork n) where
   pub least_seconds : {p q : NodeNo} {walk : List NodeNo} {m : ℕ} → IsWalk (streets n) p walk q m → IsLeastWalk (streets n) walk → IsDistance (streets n) p q m
   least_seconds {p} {q} {walk} {m} is least =
       let none : NodeNo = record { 0 = 0 } in
-      let from : least.from ≡ p = sym (walk_first none least.way.walks).1 ∙ (walk_first none is).1 in
-      let to : least.to ≡ q = sym (walk_last none least.way.walks).0 ∙ (walk_last none is).0 in
-      let at_p : IsDistance (streets n) p least.to least.way.seconds = subst (λ (v : NodeNo). IsDistance (streets n) v least.to least.way.seconds) from least.way.least in
-      let at_q : IsDistance (streets n) p q least.way.seconds = subst (λ (v : NodeNo). IsDistance (streets n) p v least.way.seconds) to at_p in
-      let walk_p : IsWalk (streets n) p walk least.to least.way.seconds = subst (λ (v : NodeNo). IsWalk (streets n) v walk least.to least.way.seconds) from least.way.walks in
-      let seconds : least.way.seconds ≡ m = walk_same walk_p is in
+      let from : least.from ≡ p = sym (walk_first none least.walks).1 ∙ (walk_first none is).1 in
+      let to : least.to ≡ q = sym (walk_last none least.walks).0 ∙ (walk_last none is).0 in
+      let at_p : IsDistance (streets n) p least.to least.seconds = subst (λ (v : NodeNo). IsDistance (streets n) v least.to least.seconds) from least.least in
+      let at_q : IsDistance (streets n) p q least.seconds = subst (λ (v : NodeNo). IsDistance (streets n) p v least.seconds) to at_p in
+      let walk_p : IsWalk (streets n) p walk least.to least.seconds = subst (λ (v : NodeNo). IsWalk (streets n) v walk least.to least.seconds) from least.walks in
+      let seconds : least.seconds ≡ m = walk_same walk_p is in
       subst (λ (k : ℕ). IsDistance (streets n) p q k) seconds at_q
 
   module _ (t : NodeNo) (last : List (Option ℕ)) (list : List Shortcut) (holds : HoldsLast n t last) where

@@ -7,24 +7,24 @@ ghost use Rattle.move_model.specs.declared.journey.Finding.{Finding};
 ghost use Rattle.move_model.specs.declared.journey.SpanFinding.{SpanFinding};
 ghost use Rattle.move_model.specs.Streets.{IsVertex};
 ghost use Rattle.move_model.specs.Network.{streets};
+ghost use Rattle.move_model.specs.Found.{IsPointAnswer, IsRangeAnswer};
 ghost use Rattle.move_model.specs.Shortcut.{TransfersListed};
 ghost use Rattle.route_split.specs.Calls.{IsTableOf};
 ghost use Rattle.journey_build.specs.Built.{IsBroken};
 ghost use Rattle.network_file.specs.declared.compiled.Compiled.{Compiled};
 ghost use Rattle.network_file.specs.Compiled.{FitTogether, IsRight};
 ghost use Rattle.network_file.specs.Answers.{GoesBySums, IsListedPoint, IsListedSpans};
-ghost use Rattle.compiled_laws.specs.Exact.{IsExactPoint, IsExactSpans};
 
 /// The listed answers of a right value are exact: the pairs of a point query are the Pareto set over all journeys of the
 /// whole network, and the spans of a range are the Pareto sets of all its seconds, each with a journey that attains it by
-/// shortest walks. So nothing is left out.
+/// shortest walks, which come to no vertex twice. So nothing is left out.
 pub fn exact_answers()
     ensures point { (c : Compiled) (s t : NodeNo) (d limit : ℕ) (found : List Finding)
         → IsRight c → IsVertex (streets c.network) s → IsVertex (streets c.network) t
-        → IsListedPoint c s d t limit found → IsExactPoint c.network s d t limit found }
+        → IsListedPoint c s d t limit found → IsPointAnswer c.network s d t limit found }
     ensures range { (c : Compiled) (s t : NodeNo) (limit first last : ℕ) (foot : Option Finding) (spans : List SpanFinding)
         → IsRight c → IsVertex (streets c.network) s → IsVertex (streets c.network) t
-        → IsListedSpans c s t limit first last foot spans → IsExactSpans c.network s t limit first last foot spans }
+        → IsListedSpans c s t limit first last foot spans → IsRangeAnswer c.network s t limit first last foot spans }
 {}
 
 /// Between two rides of what any value finds the passenger stays at the stop or goes by a pair of its list.

@@ -1,3 +1,3 @@
-pub mod PairLemmas
+pub mod ListLemmas
 pub mod RowLemmas
 pub mod WholeLemmas

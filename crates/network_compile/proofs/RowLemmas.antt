@@ -10,13 +10,12 @@ use Rattle.move_model.specs.declared.network.Stop.{Stop}
 use Rattle.move_model.specs.Streets.{IsVertex, HasDistance}
 use Rattle.move_model.specs.Network.{streets, node_of, node_of_stop}
 use Rattle.move_model.specs.Check.{KeepsRules}
-use Rattle.move_model.specs.Listed.{HoldsFirst}
 use Rattle.pareto_laws.proofs.Calls.{vertex_of_stop}
 use Rattle.walk_hierarchy.specs.Hierarchy.{Parts, IsNode, IsOver, GivesDistances}
-use Rattle.bucket_walks.specs.Buckets.{Parts as BucketParts, AreBucketsOf, HoldsDistancesFrom}
+use Rattle.bucket_walks.specs.Buckets.{Parts as BucketParts, AreBucketsOf}
 use Rattle.bucket_walks.proofs.DistanceLaws.{first_distance, last_distance}
 use Rattle.network_file.specs.Compiled.{GivesFirst, GivesLast}
-use Rattle.network_compile.proofs.PairLemmas.{short}
+use Rattle.network_compile.proofs.ListLemmas.{short}
 
 module _ (n : Network) where
   record HasStop (x : StopNo) : Type 0 where
@@ -53,11 +52,3 @@ module _ (n : Network) where
           let has = has_stop x within in
           subst (λ (v : NodeNo). HasDistance (streets n) v t r) (sym has.at)
           (last_distance h n.stops b are (streets n) gives (short n rules) x.0 has.stop has.stands t r (vertex_node t at) least)
-
-  pub row_holds : (s : NodeNo) (row : List (Option ℕ)) → HoldsDistancesFrom (streets n) s n.stops row → HoldsFirst n s row
-  row_holds s row holds = record {
-    one_each = holds.one_each;
-    distances = λ x within.
-        let has = has_stop x within in
-        subst (λ (v : NodeNo). HasDistance (streets n) s v (get_or row x.0 None)) (sym has.at) (holds.distances x.0 has.stop has.stands);
-  }

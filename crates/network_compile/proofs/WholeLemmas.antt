@@ -6,13 +6,13 @@ use Rattle.move_model.specs.declared.network.Network.{Network}
 use Rattle.move_model.specs.declared.network.Trip.{Trip}
 use Rattle.move_model.specs.Network.{streets, IsNumbered}
 use Rattle.move_model.specs.Check.{KeepsRules}
-use Rattle.pareto_laws.specs.TransferList.{IsAllPairs}
-use Rattle.pareto_laws.proofs.AllPairs.{all_pairs_suffice, all_pairs_hold_distances}
+use Rattle.move_model.specs.Shortcut.{IsShortcutList}
 use Rattle.walk_hierarchy.specs.Hierarchy.{IsHierarchy, IsOver, GivesDistances}
 use Rattle.bucket_walks.specs.Buckets.{IsBuckets, AreBucketsOf}
 use Rattle.network_file.specs.declared.compiled.Compiled.{Compiled}
-use Rattle.network_file.specs.Compiled.{IsTimetableOf, AreTransfers, IsRight}
+use Rattle.network_file.specs.Compiled.{IsTimetableOf, IsRight}
 use Rattle.network_compile.specs.Limits.{IsWithin}
+use Rattle.network_compile.proofs.ListLemmas.{transfers}
 use Rattle.network_compile.proofs.RowLemmas.{gives_first, gives_last}
 
 numbered : (n : Network) → IsWithin n → IsNumbered n
@@ -25,8 +25,8 @@ numbered n within = record {
 pub is_right : (c : Compiled) → KeepsRules c.network → IsWithin c.network → IsTimetableOf c.network c.table → IsHierarchy c.hierarchy
     → IsOver (streets c.network) c.hierarchy → GivesDistances (streets c.network) c.hierarchy
     → IsBuckets c.buckets → AreBucketsOf c.hierarchy c.network.stops c.buckets
-    → IsAllPairs c.network c.shortcuts → AreTransfers (length c.network.stops) c.shortcuts → IsRight c
-is_right c rules within table hierarchy over gives buckets are pairs transfers = record {
+    → IsShortcutList c.network c.shortcuts → IsRight c
+is_right c rules within table hierarchy over gives buckets are list = record {
   fits = record {
     rules = rules;
     numbered = numbered c.network within;
@@ -36,11 +36,10 @@ is_right c rules within table hierarchy over gives buckets are pairs transfers =
     buckets = buckets;
     same_nodes = are.nodes;
     same_stops = are.one_each;
-    transfers = transfers;
+    transfers = transfers c.network rules c.shortcuts list;
   };
   walks = gives;
   first = gives_first c.network rules c.hierarchy over gives c.buckets are;
   last = gives_last c.network rules c.hierarchy over gives c.buckets are;
-  suffices = all_pairs_suffice c.network rules.network c.shortcuts pairs;
-  distances = all_pairs_hold_distances c.network c.shortcuts pairs;
+  shortcuts = list;
 }

@@ -1,12 +1,11 @@
-//! Compiles a network: the routes of its trips, the hierarchy of its streets, the buckets of its stops, and a list of
-//! transfers that suffices.
+//! Compiles a network: the routes of its trips, the hierarchy of its streets, the buckets of its stops, and the list of its
+//! shortcuts.
 //!
-//! [`compile`] gives a value that is right for its network. Its list has all pairs of different stops that a walk joins,
-//! with their distances, by one search from each stop.
+//! [`compile`] gives a value that is right for its network. The streets are contracted once, to the core over which the
+//! shortcuts are found, and from there to the hierarchy.
 #![tactic(auto)]
 
 mod limits;
-mod pairs;
 mod streets;
 mod whole;
 

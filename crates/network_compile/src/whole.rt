@@ -5,13 +5,14 @@ ghost use Rattle.network_file.specs.Compiled.{IsRight, IsTimetableOf};
 ghost use Rattle.network_compile.specs.Limits.{IsWithin};
 
 use crate::limits::is_within;
-use crate::pairs::all_pairs;
-use crate::streets::hierarchy_of;
+use crate::streets::core_of;
 use bucket_walks::Buckets;
 use move_model::{Network, NoMemory};
 use network_file::Compiled;
 use route_split::Timetable;
+use shortcut_build::shortcuts;
 use std::alloc::Global;
+use walk_order::order;
 
 // The trips of a network by routes.
 fn table_of(alloc: Global, network: &Network) -> Result<Timetable, NoMemory>
@@ -35,9 +36,10 @@ fn compiled_of(alloc: Global, network: Network) -> Result<Compiled, NoMemory>
     ensures right { IfOk result IsRight }
 {
     let table = table_of(alloc, &network)?;
-    let hierarchy = hierarchy_of(alloc, &network)?;
+    let core = core_of(alloc, &network)?;
+    let shortcuts = shortcuts(alloc, &network, &core, &table)?;
+    let hierarchy = order(alloc, core)?;
     let buckets = Buckets::new(alloc, &hierarchy, &network.stops)?;
-    let shortcuts = all_pairs(alloc, &network, &hierarchy, &buckets)?;
     // The hierarchy goes by its rules.
     let _ = hierarchy.nodes();
     Ok(Compiled {

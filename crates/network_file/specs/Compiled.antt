@@ -4,7 +4,7 @@
 --     FitTogether c              the parts of c belong to its network, whatever walks they tell of
 --     GivesFirst n h b           the least sums of arcs up and an entry to a stop are the distances to the stops
 --     GivesLast n h b            the least sums of an entry from a stop and arcs down are the distances from the stops
---     IsRight c                  the parts fit together, their sums are the distances, and the list suffices
+--     IsRight c                  the parts fit together, their sums are the distances, and the list is that of the shortcuts
 use Rattle.std.specs.Prelude.{◌≡◌, ◌≢◌, ℕ, ◌<◌, ◌≤◌, List, [], ◌∷◌, map, length, All, Option}
 use Rattle.std.specs.List.{AllAdjacentBelow}
 use Rattle.move_model.specs.declared.network.Network.{Network}
@@ -14,8 +14,7 @@ use Rattle.move_model.specs.declared.journey.Shortcut.{Shortcut}
 use Rattle.move_model.specs.Streets.{IsVertex, HasDistance}
 use Rattle.move_model.specs.Network.{streets, node_of, IsNumbered}
 use Rattle.move_model.specs.Check.{KeepsRules}
-use Rattle.move_model.specs.Shortcut.{IsLess, Suffices}
-use Rattle.pareto_laws.specs.TransferList.{HoldsDistances}
+use Rattle.move_model.specs.Shortcut.{IsLess, IsShortcutList}
 use Rattle.walk_laws.specs.Sums.{HasLeast, longest}
 use Rattle.walk_hierarchy.specs.Hierarchy.{Parts as HierarchyParts, IsHierarchy, IsOver, GivesDistances}
 use Rattle.bucket_walks.specs.Buckets.{Parts as BucketParts, IsBuckets, IsFirstSum, IsLastSum}
@@ -72,5 +71,4 @@ pub record IsRight (c : Compiled) : Type 0 where
   pub walks : GivesDistances (streets c.network) c.hierarchy
   pub first : GivesFirst c.network c.hierarchy c.buckets
   pub last : GivesLast c.network c.hierarchy c.buckets
-  pub suffices : Suffices c.network c.shortcuts
-  pub distances : HoldsDistances c.network c.shortcuts
+  pub shortcuts : IsShortcutList c.network c.shortcuts
