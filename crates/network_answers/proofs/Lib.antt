@@ -1,0 +1,6 @@
+pub mod GainLaws
+pub mod FoundLaws
+pub mod TickLaws
+pub mod AskLaws
+pub mod PointLaws
+pub mod PairLaws

@@ -1,0 +1,3 @@
+pub mod Point
+pub mod Gains
+pub mod Found
