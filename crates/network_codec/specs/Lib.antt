@@ -1,0 +1,5 @@
+pub mod Form
+pub mod Rules
+pub mod File
+pub mod Part
+pub mod Stop

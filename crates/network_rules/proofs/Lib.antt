@@ -1,0 +1,4 @@
+pub mod RuleLemmas
+pub mod OrderLemmas
+pub mod RankLemmas
+pub mod FaultLemmas
