@@ -1,4 +1,3 @@
 pub mod RuleLemmas
-pub mod OrderLemmas
 pub mod RankLemmas
 pub mod FaultLemmas

@@ -3,7 +3,6 @@
 --     Differ stops               no two stops have one name
 --     HaveFewCalls trips         20,000,000 calls at most
 --     RiseUp h, FallDown h       the arcs up lead to greater ranks, in their order; the arcs down to lesser ones
---     HaveNodes h arcs          the ends of the arcs are vertices
 --     AreMade g h                every arc of h is a least street arc, or is made of two others at its middle
 use Rattle.std.specs.Prelude.{◌≢◌, ℕ, ◌<◌, ◌≤◌, ◌^◌, List, length, sum_by, All, AllPairs}
 use Rattle.std.specs.List.{AllAdjacentBelow}
@@ -12,7 +11,7 @@ use Rattle.move_model.specs.declared.network.Stop.{Stop}
 use Rattle.move_model.specs.declared.network.Trip.{Trip}
 use Rattle.move_model.specs.Streets.{Streets}
 use Rattle.walk_hierarchy.specs.declared.arcs.UpDown.{UpDown}
-use Rattle.walk_hierarchy.specs.Hierarchy.{Parts, IsNode, IsArcUp, IsArcDown, IsBefore, IsMade, IsLeastStreet}
+use Rattle.walk_hierarchy.specs.Hierarchy.{Parts, IsArcUp, IsArcDown, IsBefore, IsMade, IsLeastStreet}
 
 pub record IsId (name : List ℕ) : Type 0 where
   pub some : 1 ≤ length name
@@ -35,9 +34,6 @@ pub record RiseUp (h : Parts) : Type 0 where
 pub record FallDown (h : Parts) : Type 0 where
   pub each : All (IsArcDown h) h.down
   pub in_order : AreInOrder h.down
-
-abbrev pub HaveNodes : Parts → List UpDown → Type 0
-HaveNodes h arcs = All (λ arc. IsNode h arc.from × IsNode h arc.to) arcs
 
 pub record AreMade (g : Streets) (h : Parts) : Type 0 where
   pub up : All (IsMade h) h.up
