@@ -13,8 +13,6 @@ mod outside;
 mod safe_files;
 mod safe_sink;
 mod std_sink;
-#[cfg(test)]
-mod tests;
 mod whole;
 
 pub use disk_files::DiskFiles;

@@ -153,22 +153,3 @@ pub fn query(
         }
     })
 }
-
-#[cfg(test)]
-mod tests {
-    use super::*;
-
-    #[test]
-    fn tests_windows(rt: HostRuntime) {
-        let windows = [
-            (0, b"23:59:59".as_slice(), Ok(86_399)),
-            (0, b"24:00:00", Err(Cause::Window(86_401))),
-            (3_599_999, b"999:59:59", Ok(3_599_999)),
-            (3_599_999, b"999:59:58", Err(Cause::Window(0))),
-            (0, b"", Err(Cause::Time)),
-        ];
-        for (first, text, wanted) in windows.iter() {
-            assert_eq!(rt; last_second(true, *first, text), *wanted);
-        }
-    }
-}

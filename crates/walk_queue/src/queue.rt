@@ -120,6 +120,3 @@ impl<K: Ord + Copy> MinQueue<K> {
         }
     }
 }
-
-#[cfg(test)]
-mod tests;

@@ -1,7 +1,7 @@
 // What no clause says: that calls succeed, in which call a planned failure comes, and what is left behind it.
 ghost use Rattle.std.specs.Prelude.{◌^◌, ◌≤◌};
 
-use crate::{
+use move_files::{
     DiskFiles, Files, MemFiles, MemSink, ReadFail, ReadStop, SafeFiles, SafeSink, Sink, StdSink,
     WriteFail, read_whole, write_whole,
 };

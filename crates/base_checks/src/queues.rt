@@ -1,5 +1,6 @@
-use super::MinQueue;
+// Keys in the order in which a queue yields them.
 use std::test::Fail;
+use walk_queue::MinQueue;
 
 #[test]
 fn least_key_first(rt: HostRuntime) -> Result<(), Fail> {
