@@ -1,23 +1,21 @@
 -- The pairs that are needed from all starts are the list of shortcuts.
-use Rattle.std.proofs.Common.{◌≡◌, ℕ, ◌+◌, ◌<◌, ◌≤◌, ◌⊎◌, List, [], ◌∷◌, Some, length, slice_get, slice_index_or, map, refl, sym, ap, ◌∙◌, subst, inl, inr, arith}
+use Rattle.std.proofs.Common.{◌≡◌, ℕ, ◌+◌, ◌<◌, ◌⊎◌, List, [], ◌∷◌, Some, length, slice_index_or, map, refl, sym, ap, ◌∙◌, subst, inl, inr, arith}
 use Rattle.std.specs.Prelude.{◌↔◌, All, Contains}
 use Rattle.std.proofs.lemmas.Option.{slice_get-get_or}
 use Rattle.std.proofs.lemmas.List.{get_or_default}
 use Rattle.std.proofs.lemmas.List.Elements.{Contains-get_or}
 use Rattle.move_model.specs.declared.network.Network.{Network}
 use Rattle.move_model.specs.declared.network.StopNo.{StopNo}
-use Rattle.move_model.specs.declared.journey.Shortcut.{Shortcut}
 use Rattle.move_model.specs.Check.{KeepsRules}
 use Rattle.move_model.specs.Network.{streets, node_of, IsStopDistance}
 use Rattle.move_model.specs.Shortcut.{IsStart, IsShortcutList}
 use Rattle.piece_laws.proofs.Starts.{needed_start}
 use Rattle.stop_rows.specs.Rows.{Rows, HoldsRows, IsEntry, place_at, entry}
 use Rattle.start_seconds.specs.declared.start.Start.{Start}
-use Rattle.start_seconds.specs.Starts.{HasStart, AreStarts}
+use Rattle.start_seconds.specs.Starts.{AreStarts}
 use Rattle.shortcut_laws.specs.Pairs.{Pair, IsPairNeeded, AreNeededPairs, ArePairsRising, shortcut_of}
 use Rattle.shortcut_laws.proofs.Needed.{list_is, only_start, stops_exist, start_exists, walk_within}
-use Rattle.witness_prune.specs.Needed.{IsRising, pair_at, no_pair}
-use Rattle.witness_prune.specs.Search.{IsNeededFrom}
+use Rattle.witness_prune.specs.Needed.{IsRising, no_pair}
 use Rattle.shortcut_build.specs.Collected.{HasNeeded, seconds_by}
 
 -- the entry at the places of a needed pair is the distance of its stops

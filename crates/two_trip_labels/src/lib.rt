@@ -21,4 +21,4 @@ pub use held_rows::HeldRows;
 pub use label::label_at;
 pub use laws::{label_stands, labels_last, labels_stand};
 pub use second_all::ride_calls;
-pub use walks::walk_from;
+pub use walks::{put_cuts, walk_from};

@@ -1,6 +1,7 @@
 -- Reading needed walks off the labels.
-use Rattle.std.proofs.Common.{◌≡◌, ℕ, ◌+◌, ◌-◌, ◌<◌, ◌≤◌, ◌⊎◌, inl, inr, List, [], ◌∷◌, ◌++◌, length, refl, sym, subst, arith}
+use Rattle.std.proofs.Common.{◌≡◌, ℕ, ◌+◌, ◌-◌, ◌<◌, ◌≤◌, ◌⊎◌, inl, inr, List, [], ◌∷◌, ◌++◌, length, get_or, refl, sym, ap, subst, ◌∙◌, arith}
 use Rattle.std.proofs.lemmas.Bool.{cases_lt}
+use Rattle.std.proofs.lemmas.List.{get_or_default}
 use Rattle.std.proofs.lemmas.List.Elements.{Contains-push, Contains-push_cases, Contains-append_left}
 use Rattle.std.specs.Prelude.{◌↔◌, Contains, slice_index}
 use Rattle.move_model.specs.declared.network.Network.{Network}
@@ -19,7 +20,7 @@ use Rattle.two_trip_rides.specs.Second.{ready_at, second_at}
 use Rattle.two_trip_labels.specs.Closed.{last_second, ArePartsOf}
 use Rattle.two_trip_labels.proofs.ReadyTable.{stop_exists}
 use Rattle.two_trip_passes.specs.Own.{own_at}
-use Rattle.two_trip_passes.specs.Read.{Pair, arrival, IsNear, IsReadAt, IsReadable, HasRead}
+use Rattle.two_trip_passes.specs.Read.{Pair, key_pair, IsFound, arrival, IsNear, HasNear, IsReadAt, IsOwnKey, HasRead}
 use Rattle.two_trip_passes.specs.Step.{parts_of, AreRowsOf}
 
 not_near : (a b m : ℕ) → b ≤ last_second → last_second < m → ¬ (IsLess ((a + m) ∷ a ∷ []) (b ∷ b ∷ []))
@@ -81,57 +82,80 @@ module _ (n : Network) (q : NodeNo) (z : ℕ) (routes : List Route) (foot foot_r
       ]
 
 module _ (rows : Rows) (foot : List ℕ) (z : ℕ) (own : List ℕ) (boarded : List Ready) (best : List Second) where
-  pub readable : (v x y : StopNo) → IsReadAt rows foot z own boarded best v x y → IsReadable rows foot z own boarded best v
-  readable v x y r = record {
-    is_own = record {
-      within = r.within;
-      some = omega (arith, r.c_is);
-      own_is = subst (λ (s : StopNo). own_at own s ≡ (second_at best v.0).label.a1) (stop_eq x (record { 0 = (second_at best v.0).label.c - 1 }) (omega (arith, r.c_is))) r.own_is;
-      no_foot = r.no_foot;
-      no_ride = r.no_ride;
-    };
-    no_far = r.no_far;
+  pub own_key : (v x y : StopNo) → IsReadAt rows foot z own boarded best v x y → IsOwnKey foot z own boarded v (second_at best v.0)
+  own_key v x y r = record {
+    within = r.within;
+    some = omega (arith, r.c_is);
+    own_is = subst (λ (s : StopNo). own_at own s ≡ (second_at best v.0).label.a1) (stop_eq x (record { 0 = (second_at best v.0).label.c - 1 }) (omega (arith, r.c_is))) r.own_is;
+    no_foot = r.no_foot;
+    no_ride = r.no_ride;
   }
 
-  pub read_of : (v : StopNo) → IsReadable rows foot z own boarded best v
-      → IsReadAt rows foot z own boarded best v (record { 0 = (second_at best v.0).label.c - 1 }) (record { 0 = (second_at best v.0).y })
-  read_of v r = record {
-    within = r.is_own.within;
-    c_is = omega (arith, r.is_own.some);
+  pub read_of : (v : StopNo) → IsOwnKey foot z own boarded v (second_at best v.0) → ¬ (HasNear rows best (place_at rows v) (arrival best v))
+      → IsReadAt rows foot z own boarded best v (key_pair (second_at best v.0)).0 (key_pair (second_at best v.0)).1
+  read_of v is far = record {
+    within = is.within;
+    c_is = omega (arith, is.some);
     y_is = refl;
-    own_is = r.is_own.own_is;
-    no_foot = r.is_own.no_foot;
-    no_ride = r.is_own.no_ride;
-    no_far = r.no_far;
+    own_is = is.own_is;
+    no_foot = is.no_foot;
+    no_ride = is.no_ride;
+    no_far = far;
   }
 
-  pub read_pair : (v : StopNo) (q : Pair) → IsReadAt rows foot z own boarded best v q.0 q.1 → q ≡ (record { 0 = (second_at best v.0).label.c - 1 }, record { 0 = (second_at best v.0).y })
+  pub read_pair : (v : StopNo) (q : Pair) → IsReadAt rows foot z own boarded best v q.0 q.1 → q ≡ key_pair (second_at best v.0)
   read_pair v q r =
       let e = stop_eq q.0 (record { 0 = (second_at best v.0).label.c - 1 }) (omega (arith, r.c_is)) in
       let f = stop_eq q.1 (record { 0 = (second_at best v.0).y }) (sym r.y_is) in
       λ i. (e i, f i)
 
-  -- one pair more, that of a stop's key
-  pub read_pushed : (v : StopNo) (old new : List Pair) → IsReadable rows foot z own boarded best v
-      → ((q : Pair) → Contains new q ↔ (Contains old q ⊎ (q ≡ (record { 0 = (second_at best v.0).label.c - 1 }, record { 0 = (second_at best v.0).y }))))
-      → (q : Pair) → Contains new q ↔ (Contains old q ⊎ IsReadAt rows foot z own boarded best v q.0 q.1)
-  read_pushed v old new r pushed q = (there, back)
+  -- what the labels say at a stop was found before
+  pub read_nothing : (v : StopNo) (known pairs : List Pair) (q : Pair) → (IsReadAt rows foot z own boarded best v q.0 q.1 → IsFound known pairs q)
+      → IsFound known pairs q ↔ (IsFound known pairs q ⊎ IsReadAt rows foot z own boarded best v q.0 q.1)
+  read_nothing v known pairs q none = (there, back)
     where
-      there : Contains new q → Contains old q ⊎ IsReadAt rows foot z own boarded best v q.0 q.1
-      there h = elim ((pushed q).0 h) [
-        | inl was ↦ inl was
-        | inr e ↦ inr (subst (λ (t : Pair). IsReadAt rows foot z own boarded best v t.0 t.1) (sym e) (read_of v r))
+      there : IsFound known pairs q → IsFound known pairs q ⊎ IsReadAt rows foot z own boarded best v q.0 q.1
+      there h = inl h
+
+      back : IsFound known pairs q ⊎ IsReadAt rows foot z own boarded best v q.0 q.1 → IsFound known pairs q
+      back (inl was) = was
+      back (inr r) = none r
+
+  -- the pair of a stop's key was known
+  pub read_known : (v : StopNo) (key : Second) (known pairs : List Pair) (q : Pair) → second_at best v.0 ≡ key → Contains known (key_pair key)
+      → IsFound known pairs q ↔ (IsFound known pairs q ⊎ IsReadAt rows foot z own boarded best v q.0 q.1)
+  read_known v key known pairs q e has =
+      read_nothing v known pairs q (λ r. inl (subst (λ (t : Pair). Contains known t) (sym (read_pair v q r)) (subst (λ (k : Second). Contains known (key_pair k)) (sym e) has)))
+
+  -- one pair more, that of a stop's key
+  pub read_pushed : (v : StopNo) (key : Second) (known old : List Pair) (q : Pair) → second_at best v.0 ≡ key → IsOwnKey foot z own boarded v key
+      → ¬ (HasNear rows best (place_at rows v) key.a2) → IsFound known (old ++ key_pair key ∷ []) q ↔ (IsFound known old q ⊎ IsReadAt rows foot z own boarded best v q.0 q.1)
+  read_pushed v key known old q e is far = (there, back)
+    where
+      here : IsReadAt rows foot z own boarded best v (key_pair key).0 (key_pair key).1
+      here = subst (λ (k : Second). IsReadAt rows foot z own boarded best v (key_pair k).0 (key_pair k).1) e
+          (read_of v (subst (λ (k : Second). IsOwnKey foot z own boarded v k) (sym e) is) (subst (λ (k : Second). ¬ (HasNear rows best (place_at rows v) k.a2)) (sym e) far))
+
+      there : IsFound known (old ++ key_pair key ∷ []) q → IsFound known old q ⊎ IsReadAt rows foot z own boarded best v q.0 q.1
+      there (inl was) = inl (inl was)
+      there (inr h) = elim (Contains-push_cases old (key_pair key) q h) [
+        | inl was ↦ inl (inr was)
+        | inr t ↦ inr (subst (λ (s : Pair). IsReadAt rows foot z own boarded best v s.0 s.1) t here)
       ]
 
-      back : Contains old q ⊎ IsReadAt rows foot z own boarded best v q.0 q.1 → Contains new q
-      back h = elim h [ inl was ↦ (pushed q).1 (inl was) | inr s ↦ (pushed q).1 (inr (read_pair v q s)) ]
+      back : IsFound known old q ⊎ IsReadAt rows foot z own boarded best v q.0 q.1 → IsFound known (old ++ key_pair key ∷ []) q
+      back (inl (inl was)) = inl was
+      back (inl (inr was)) = inr (Contains-append_left old (key_pair key ∷ []) q was)
+      back (inr r) =
+          let same : q ≡ key_pair key = read_pair v q r ∙ ap key_pair e in
+          inr (subst (λ (t : Pair). Contains (old ++ key_pair key ∷ []) t) (sym same) (Contains-push old (key_pair key)))
 
-  pub read_more : (m : ℕ) (xs ys zs : List Pair) (q : Pair) → Contains ys q ↔ (Contains xs q ⊎ HasRead rows foot z own boarded best m q.0 q.1)
-      → Contains zs q ↔ (Contains ys q ⊎ IsReadAt rows foot z own boarded best (record { 0 = m }) q.0 q.1)
-      → Contains zs q ↔ (Contains xs q ⊎ HasRead rows foot z own boarded best (m + 1) q.0 q.1)
-  read_more m xs ys zs q was this = (there, back)
+  pub read_more : (m : ℕ) (known xs ys zs : List Pair) (q : Pair) → IsFound known ys q ↔ (IsFound known xs q ⊎ HasRead rows foot z own boarded best m q.0 q.1)
+      → IsFound known zs q ↔ (IsFound known ys q ⊎ IsReadAt rows foot z own boarded best (record { 0 = m }) q.0 q.1)
+      → IsFound known zs q ↔ (IsFound known xs q ⊎ HasRead rows foot z own boarded best (m + 1) q.0 q.1)
+  read_more m known xs ys zs q was this = (there, back)
     where
-      there : Contains zs q → Contains xs q ⊎ HasRead rows foot z own boarded best (m + 1) q.0 q.1
+      there : IsFound known zs q → IsFound known xs q ⊎ HasRead rows foot z own boarded best (m + 1) q.0 q.1
       there h = elim (this.0 h) [
         | inl before ↦ elim (was.0 before) [
           | inl old ↦ inl old
@@ -140,7 +164,7 @@ module _ (rows : Rows) (foot : List ℕ) (z : ℕ) (own : List ℕ) (boarded : L
         | inr new ↦ inr (record { stop = record { 0 = m }; exists = omega arith; read = new })
       ]
 
-      back : Contains xs q ⊎ HasRead rows foot z own boarded best (m + 1) q.0 q.1 → Contains zs q
+      back : IsFound known xs q ⊎ HasRead rows foot z own boarded best (m + 1) q.0 q.1 → IsFound known zs q
       back h = elim h [
         | inl old ↦ this.1 (inl (was.1 (inl old)))
         | inr r ↦ elim (cases_lt r.stop.0 m) [
@@ -149,11 +173,9 @@ module _ (rows : Rows) (foot : List ℕ) (z : ℕ) (own : List ℕ) (boarded : L
         ]
       ]
 
-pub contains_pushed : (xs : List Pair) (y q : Pair) → Contains (xs ++ y ∷ []) q ↔ (Contains xs q ⊎ (q ≡ y))
-contains_pushed xs y q = (there, back)
-  where
-    there : Contains (xs ++ y ∷ []) q → Contains xs q ⊎ (q ≡ y)
-    there h = elim (Contains-push_cases xs y q h) [ inl was ↦ inl was | inr e ↦ inr (sym e) ]
-
-    back : Contains xs q ⊎ (q ≡ y) → Contains (xs ++ y ∷ []) q
-    back h = elim h [ inl was ↦ Contains-append_left xs (y ∷ []) q was | inr e ↦ subst (λ (t : Pair). Contains (xs ++ y ∷ []) t) (sym e) (Contains-push xs y) ]
+pub pair_known : (known : List Pair) (k : ℕ) (d q : Pair) → k < length known → (get_or known k d).0.0 ≡ q.0.0 → (get_or known k d).1.0 ≡ q.1.0 → Contains known q
+pair_known known k d q low e f =
+    let e' = stop_eq (get_or known k d).0 q.0 e in
+    let f' = stop_eq (get_or known k d).1 q.1 f in
+    let same : get_or known k d ≡ q = λ i. (e' i, f' i) in
+    subst (λ (t : Pair). Contains known t) same (k, low, get_or_default known k (get_or known k d) d low)

@@ -5,9 +5,10 @@
 --     HasNear rows best q a              they are so for some stop
 --     IsReadAt rows foot z own .. v x y  the labels say at the stop v that the walk from x to y is needed
 --     IsOwnKey foot z own boarded v key  a key is that of a first ride of the start itself, and neither a walk nor one ride is as early
---     IsReadable rows foot z own .. v    the labels say at the stop v that some walk is needed
 --     HasRead rows foot z own .. m x y   they say at one of the first m stops that the walk from x to y is
-use Rattle.std.specs.Prelude.{◌≡◌, ℕ, ◌+◌, ◌-◌, ◌<◌, ◌≤◌, List, [], ◌∷◌, length, slice_index}
+--     key_pair key                       the two stops that a key walks between
+--     IsFound known pairs q              q is one of the pairs that are known or were added
+use Rattle.std.specs.Prelude.{◌≡◌, ℕ, ◌+◌, ◌-◌, ◌<◌, ◌≤◌, ◌⊎◌, List, [], ◌∷◌, length, slice_index, Contains}
 use Rattle.move_model.specs.declared.network.StopNo.{StopNo}
 use Rattle.move_model.specs.Shortcut.{IsLess}
 use Rattle.stop_rows.specs.Rows.{Rows, entry, place_at}
@@ -50,11 +51,13 @@ pub record IsOwnKey (foot : List ℕ) (z : ℕ) (own : List ℕ) (boarded : List
   pub no_foot : key.a2 < z + slice_index foot v.0
   pub no_ride : key.a2 < (ready_at boarded v.0).ready
 
-pub record IsReadable (rows : Rows) (foot : List ℕ) (z : ℕ) (own : List ℕ) (boarded : List Ready) (best : List Second) (v : StopNo) : Type 0 where
-  pub is_own : IsOwnKey foot z own boarded v (second_at best v.0)
-  pub no_far : ¬ (HasNear rows best (place_at rows v) (arrival best v))
-
 pub record HasRead (rows : Rows) (foot : List ℕ) (z : ℕ) (own : List ℕ) (boarded : List Ready) (best : List Second) (many : ℕ) (x y : StopNo) : Type 0 where
   pub stop : StopNo
   pub exists : stop.0 < many
   pub read : IsReadAt rows foot z own boarded best stop x y
+
+abbrev pub key_pair : Second → Pair
+key_pair key = (record { 0 = key.label.c - 1 }, record { 0 = key.y })
+
+abbrev pub IsFound : List Pair → List Pair → Pair → Type 0
+IsFound known pairs q = Contains known q ⊎ Contains pairs q

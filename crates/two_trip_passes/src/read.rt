@@ -1,8 +1,8 @@
 // Reading needed walks off the labels.
-ghost use Rattle.std.specs.Prelude.{◌≡◌, ◌<◌, ◌≤◌, ◌+◌, ◌⊎◌, ◌↔◌, ℕ, IsTrue, Contains, length, vec_len, vec_capacity};
+ghost use Rattle.std.specs.Prelude.{◌≡◌, ◌<◌, ◌≤◌, ◌+◌, ◌-◌, ◌⊎◌, ◌↔◌, ℕ, IsTrue, Contains, length, vec_len, vec_capacity};
 ghost use Rattle.move_model.specs.declared.network.StopNo.{StopNo};
 ghost use Rattle.two_trip_passes.specs.Own.{own_at};
-ghost use Rattle.two_trip_passes.specs.Read.{Pair, IsNear, HasNear, IsReadAt, IsOwnKey, IsReadable, HasRead};
+ghost use Rattle.two_trip_passes.specs.Read.{Pair, key_pair, IsFound, IsNear, HasNear, IsReadAt, IsOwnKey, HasRead};
 
 use move_model::StopNo;
 use piece_laws::{Ready, Second};
@@ -69,31 +69,48 @@ fn is_own(key: Second, stop: u32, second: u32, foot: &[u32], own: &[u32], boarde
     key.a2 < boarded[at].ready && (key.a2 as u64) < second as u64 + foot[at] as u64
 }
 
-// Whether the labels say at a stop that a walk is needed.
-fn is_read(
-    rows: &StopRows,
-    stop: u32,
-    second: u32,
-    foot: &[u32],
-    own: &[u32],
-    boarded: &[Ready],
-    best: &[Second],
-) -> bool
-    requires stop { stop < length rows.now.places }
-    requires foot { length foot.now ≡ length rows.now.places }
-    requires boarded { length boarded.now ≡ length rows.now.places }
-    requires best { length best.now ≡ length rows.now.places }
-    ensures { IsTrue result ↔ IsReadable rows.now foot.now second own.now boarded.now best.now (record { 0 = stop }) }
+// The pair of stops that a key walks between.
+fn pair_of(key: Second) -> (StopNo, StopNo)
+    requires { 0 < key.label.c }
+    ensures { result ≡ key_pair key }
 {
-    let key = best[stop as usize];
-    if !is_own(key, stop, second, foot, own, boarded) {
-        return false;
-    }
-    let near = has_near(rows, rows.place(StopNo(stop)), key.a2, best);
-    !near
+    (StopNo(key.label.c - 1), StopNo(key.y))
 }
 
-// Adds the pair that the labels say at a stop, if there is one; there is room for it.
+// Whether one pair stands before another, by its first stop, then by its second.
+fn is_before(a: (StopNo, StopNo), b: (StopNo, StopNo)) -> bool {
+    if a.0.0 != b.0.0 {
+        return a.0.0 < b.0.0;
+    }
+    a.1.0 < b.1.0
+}
+
+// Where a pair stands in a rising list, if it is there.
+fn place_in(known: &[(StopNo, StopNo)], pair: (StopNo, StopNo)) -> usize
+    ensures { result ≤ length known.now }
+{
+    let mut low = 0;
+    let mut high = known.len();
+    while low < high {
+        let middle = low + (high - low) / 2;
+        if is_before(known[middle], pair) {
+            low = middle + 1;
+        } else {
+            high = middle;
+        }
+    }
+    low
+}
+
+// Whether a pair was found in a rising list.
+fn is_known(known: &[(StopNo, StopNo)], pair: (StopNo, StopNo)) -> bool
+    ensures { IsTrue result → Contains known.now pair }
+{
+    let place = place_in(known, pair);
+    place < known.len() && known[place].0.0 == pair.0.0 && known[place].1.0 == pair.1.0
+}
+
+// Adds the pair that the labels say at a stop, if there is one that isn't known; there is room for it.
 fn read_stop(
     rows: &StopRows,
     stop: u32,
@@ -102,6 +119,7 @@ fn read_stop(
     own: &[u32],
     boarded: &[Ready],
     best: &[Second],
+    known: &[(StopNo, StopNo)],
     pairs: &mut Vec<(StopNo, StopNo)>,
 )
     requires stop { stop < length rows.now.places }
@@ -109,17 +127,25 @@ fn read_stop(
     requires boarded { length boarded.now ≡ length rows.now.places }
     requires best { length best.now ≡ length rows.now.places }
     requires room { vec_len pairs.old < vec_capacity pairs.old }
-    ensures pairs { (q : Pair) → Contains pairs.new.items q ↔ (Contains pairs.old.items q ⊎ IsReadAt rows.now foot.now second own.now boarded.now best.now (record { 0 = stop }) q.0 q.1) }
+    ensures pairs { (q : Pair) → IsFound known.now pairs.new.items q ↔ (IsFound known.now pairs.old.items q ⊎ IsReadAt rows.now foot.now second own.now boarded.now best.now (record { 0 = stop }) q.0 q.1) }
     ensures capacity { vec_capacity pairs.old ≤ vec_capacity pairs.new }
     ensures len { vec_len pairs.new ≤ vec_len pairs.old + 1 }
 {
-    if is_read(rows, stop, second, foot, own, boarded, best) {
-        let key = best[stop as usize];
-        pairs.push_reserved((StopNo(key.label.c - 1), StopNo(key.y)));
+    let key = best[stop as usize];
+    if !is_own(key, stop, second, foot, own, boarded) {
+        return;
+    }
+    let pair = pair_of(key);
+    if is_known(known, pair) {
+        return;
+    }
+    if !has_near(rows, rows.place(StopNo(stop)), key.a2, best) {
+        pairs.push_reserved(pair);
     }
 }
 
-/// Adds the pairs that the labels say at all stops; there is room for one of each.
+/// Adds the pairs that the labels say at all stops, but for some that are known, in rising order; there is room for one of
+/// each.
 pub fn read_all(
     rows: &StopRows,
     second: u32,
@@ -127,16 +153,17 @@ pub fn read_all(
     own: &[u32],
     boarded: &[Ready],
     best: &[Second],
+    known: &[(StopNo, StopNo)],
     pairs: &mut Vec<(StopNo, StopNo)>,
 )
     requires foot { length foot.now ≡ length rows.now.places }
     requires boarded { length boarded.now ≡ length rows.now.places }
     requires best { length best.now ≡ length rows.now.places }
     requires room { vec_len pairs.old + length rows.now.places ≤ vec_capacity pairs.old }
-    ensures pairs { (q : Pair) → Contains pairs.new.items q ↔ (Contains pairs.old.items q ⊎ HasRead rows.now foot.now second own.now boarded.now best.now (length rows.now.places) q.0 q.1) }
+    ensures pairs { (q : Pair) → IsFound known.now pairs.new.items q ↔ (IsFound known.now pairs.old.items q ⊎ HasRead rows.now foot.now second own.now boarded.now best.now (length rows.now.places) q.0 q.1) }
     ensures capacity { vec_capacity pairs.old ≤ vec_capacity pairs.new }
 {
     for stop in 0..rows.stops() {
-        read_stop(rows, stop, second, foot, own, boarded, best, pairs);
+        read_stop(rows, stop, second, foot, own, boarded, best, known, pairs);
     }
 }

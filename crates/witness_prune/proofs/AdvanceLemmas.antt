@@ -21,7 +21,6 @@ use Rattle.two_trip_passes.specs.Walks.{WalkGoes, last_walked}
 use Rattle.two_trip_passes.specs.Rides.{RideGoes, IsBoardedLow, AreReal}
 use Rattle.two_trip_passes.specs.Step.{parts_of, source_of, AreRowsOf, with_walks, with_rides, IsReal}
 use Rattle.two_trip_passes.proofs.StepLemmas.{closed_again, walked_real, labels_real, ridden_real, real_earlier}
-use Rattle.witness_prune.specs.Labels.{IsKept}
 
 -- the three passes of a step
 pub record Passes (routes : List Route) (foot foot_row : List ℕ) (rows : Rows) (buffer second : ℕ) (k : Kept)

@@ -21,7 +21,7 @@ use Rattle.piece_laws.specs.Pieces.{IsNeeded}
 use Rattle.piece_laws.specs.Tables.{OwnStands}
 use Rattle.two_trip_labels.specs.Closed.{last_second, ArePartsOf, Kept, IsClosed}
 use Rattle.two_trip_passes.specs.Own.{own_at}
-use Rattle.two_trip_passes.specs.Read.{HasRead}
+use Rattle.two_trip_passes.specs.Read.{IsFound, HasRead}
 use Rattle.two_trip_passes.specs.Step.{parts_of, AreRowsOf, IsReal}
 use Rattle.two_trip_passes.proofs.NeededTable.{labels_read}
 use Rattle.witness_prune.specs.Needed.{Pair}
@@ -32,14 +32,18 @@ use Rattle.witness_prune.proofs.PartsLemmas.{rows_are, parts_are}
 use Rattle.witness_prune.proofs.RowLemmas.{parts_alike, closed_alike, real_alike, kept_alike}
 
 -- what is added to no pair
-pub none_before : (old new : List Pair) (q : Pair) (P : Type 0) → old ≡ [] → Contains new q ↔ (Contains old q ⊎ P) → Contains new q ↔ P
-none_before old new q P none is = (there, back)
+pub none_before : (known old new : List Pair) (q : Pair) (P : Type 0) → old ≡ [] → IsFound known new q ↔ (IsFound known old q ⊎ P) → IsFound known new q ↔ (Contains known q ⊎ P)
+none_before known old new q P none is = (there, back)
   where
-    there : Contains new q → P
-    there h = elim (is.0 h) [ inl old_one ↦ let none_is : Contains [] q = subst (λ (ps : List Pair). Contains ps q) none old_one in absurd (omega (arith, none_is.1)) | inr p ↦ p ]
+    there : IsFound known new q → Contains known q ⊎ P
+    there h = elim (is.0 h) [
+      | inl (inl was) ↦ inl was
+      | inl (inr old_one) ↦ let none_is : Contains [] q = subst (λ (ps : List Pair). Contains ps q) none old_one in absurd (omega (arith, none_is.1))
+      | inr p ↦ inr p
+    ]
 
-    back : P → Contains new q
-    back p = is.1 (inr p)
+    back : Contains known q ⊎ P → IsFound known new q
+    back h = elim h [ inl was ↦ is.1 (inl (inl was)) | inr p ↦ is.1 (inr p) ]
 
 module _ (n : Network) (rows : Rows) (table : Table) (parts : AreParts n rows table) where
   pub all_rows : AreRowsOf n rows
@@ -86,7 +90,7 @@ module _ (n : Network) (rows : Rows) (table : Table) (parts : AreParts n rows ta
     pub step_adds : (us : List StopNo) (z : ℕ) (own : List ℕ) (k : Kept) (needed pairs needed' : List Pair)
         → ((u : StopNo) → Contains us u → node_of n u ≡ q) → OwnStands n us z (own_at own)
         → IsClosed n (parts_at routes rows place foot) z (1 + last_second) k → IsReal n q z (parts_at routes rows place foot) k
-        → ((p : Pair) → Contains pairs p ↔ HasRead rows foot z own k.boarded k.best (length rows.places) p.0 p.1)
+        → ((p : Pair) → IsFound needed pairs p ↔ (Contains needed p ⊎ HasRead rows foot z own k.boarded k.best (length rows.places) p.0 p.1))
         → ((p : Pair) → Contains needed' p ↔ (Contains needed p ⊎ Contains pairs p)) → AddsNeeded n us z needed needed'
     step_adds us z own k needed pairs needed' at owns closed real read all x y = (there, back)
       where
@@ -94,7 +98,7 @@ module _ (n : Network) (rows : Rows) (table : Table) (parts : AreParts n rows ta
         exact = labels_read n us q z routes foot (row_from rows place) rows own k parts.rules.network day place_parts all_rows at owns closed real.sound x y
 
         there : Contains needed' (x, y) → Contains needed (x, y) ⊎ IsNeeded n us z x y
-        there h = elim ((all (x, y)).0 h) [ inl old ↦ inl old | inr new ↦ inr (exact.0 ((read (x, y)).0 new)) ]
+        there h = elim ((all (x, y)).0 h) [ inl old ↦ inl old | inr new ↦ elim ((read (x, y)).0 (inr new)) [ inl old ↦ inl old | inr r ↦ inr (exact.0 r) ] ]
 
         back : Contains needed (x, y) ⊎ IsNeeded n us z x y → Contains needed' (x, y)
-        back h = elim h [ inl old ↦ (all (x, y)).1 (inl old) | inr new ↦ (all (x, y)).1 (inr ((read (x, y)).1 (exact.1 new))) ]
+        back h = elim h [ inl old ↦ (all (x, y)).1 (inl old) | inr new ↦ (all (x, y)).1 ((read (x, y)).1 (inr (exact.1 new))) ]

@@ -1,15 +1,14 @@
 -- Before the first second of a place nothing is kept: that is closed, and real.
-use Rattle.std.proofs.Common.{◌≡◌, ℕ, ◌+◌, ◌<◌, ◌≤◌, inl, inr, List, [], length, refl, sym, ap, subst, ◌∙◌, arith, Some}
+use Rattle.std.proofs.Common.{◌≡◌, ℕ, ◌+◌, ◌<◌, ◌≤◌, inl, inr, List, length, sym, ap, subst, ◌∙◌, arith, Some}
 use Rattle.std.proofs.lemmas.Bool.{cases_lt}
 use Rattle.std.proofs.lemmas.List.{length-replicate, get_or-replicate, get_or_past}
 use Rattle.std.proofs.lemmas.Option.{slice_get_within}
 use Rattle.std.specs.Prelude.{replicate, slice_get, slice_index, slice_index_or}
 use Rattle.move_model.specs.declared.network.Network.{Network}
 use Rattle.move_model.specs.declared.network.NodeNo.{NodeNo}
-use Rattle.move_model.specs.declared.network.StopNo.{StopNo}
 use Rattle.move_model.specs.Shortcut.{IsLess}
 use Rattle.pareto_laws.proofs.Lexicographic.{IsLess-irreflexive}
-use Rattle.route_split.specs.Route.{Route, IsRoute, departures_of}
+use Rattle.route_split.specs.Route.{Route, IsRoute}
 use Rattle.stop_rows.specs.Rows.{Rows}
 use Rattle.piece_laws.specs.declared.labels.Ready.{Ready}
 use Rattle.piece_laws.specs.declared.labels.Second.{Second}
@@ -19,9 +18,10 @@ use Rattle.piece_laws.specs.Tables.{never}
 use Rattle.two_trip_rides.specs.First.{Source, FirstClosed, AreFirstRows}
 use Rattle.two_trip_rides.specs.Second.{no_ready, no_held, no_second, ready_at, held_at, second_at, SecondClosed, AreSecondRows}
 use Rattle.two_trip_rides.proofs.TimesLemmas.{departs_before}
-use Rattle.two_trip_labels.specs.First.{RowsFit, row_at}
-use Rattle.two_trip_labels.specs.Second.{HeldFit, held_row}
+use Rattle.two_trip_labels.specs.First.{row_at}
+use Rattle.two_trip_labels.specs.Second.{held_row}
 use Rattle.two_trip_labels.specs.Closed.{Parts, Kept, ArePartsOf, IsClosed}
+use Rattle.two_trip_passes.specs.Stops.{AreDue}
 use Rattle.two_trip_passes.specs.Step.{source_of, IsReal}
 use Rattle.witness_prune.specs.Labels.{Fits, IsNone, IsKept}
 
@@ -144,3 +144,11 @@ module _ (n : Network) (q : NodeNo) (z : ℕ) (p : Parts) (rows : Rows) (k : Kep
 
   pub kept_none : IsKept n q z p k
   kept_none = record { real = real_none; closed = closed_none }
+
+-- no second is due where none was put down
+pub due_none : (routes : List Route) (rows : List (List ℕ)) (m : ℕ) (due : List ℕ) → due ≡ replicate m never → AreDue routes rows due
+due_none routes rows m due none = record {
+  each = λ x low.
+      let within : x < m = omega (arith, low, ap length none, length-replicate m never) in
+      inl (ap (λ (xs : List ℕ). slice_index xs x) none ∙ get_or-replicate m x never 0 within);
+}

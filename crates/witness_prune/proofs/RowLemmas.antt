@@ -1,12 +1,11 @@
 -- The seconds from a place, lent as a slice, are those of its row.
-use Rattle.std.proofs.Common.{◌≡◌, ℕ, ◌+◌, ◌<◌, ◌≤◌, ◌⊎◌, inl, inr, List, length, sym, subst, arith}
+use Rattle.std.proofs.Common.{◌≡◌, ℕ, ◌<◌, inl, inr, List, length, sym, subst, arith}
 use Rattle.std.specs.Prelude.{slice_index}
 use Rattle.move_model.specs.declared.network.Network.{Network}
 use Rattle.move_model.specs.declared.network.NodeNo.{NodeNo}
-use Rattle.move_model.specs.declared.network.StopNo.{StopNo}
 use Rattle.route_split.specs.Route.{Route}
 use Rattle.stop_rows.specs.Rows.{Rows, place_at}
-use Rattle.two_trip_labels.specs.Closed.{ArePartsOf, Kept, IsClosed, IsSound}
+use Rattle.two_trip_labels.specs.Closed.{ArePartsOf, Kept, IsClosed}
 use Rattle.two_trip_passes.specs.Step.{parts_of, AreRowsOf, IsReal}
 use Rattle.witness_prune.specs.Labels.{IsKept}
 

@@ -1,7 +1,7 @@
 -- What a search keeps true: when it is made, begun, and after a step.
-use Rattle.std.proofs.Common.{◌≡◌, ℕ, zero, suc, ◌^◌, ◌<◌, ◌≤◌, ◌⊎◌, inl, inr, List, [], ◌∷◌, length, sym, subst, ◌∙◌, arith, Some}
+use Rattle.std.proofs.Common.{◌≡◌, ℕ, zero, suc, ◌^◌, ◌<◌, ◌≤◌, ◌⊎◌, inl, inr, List, [], ◌∷◌, length, subst, arith}
 use Rattle.std.proofs.lemmas.List.Elements.{All-weaker, All-contains_itself, All-cons, All-nil}
-use Rattle.std.specs.Prelude.{◌↔◌, All, Contains, slice_get}
+use Rattle.std.specs.Prelude.{◌↔◌, All, Contains}
 use Rattle.move_model.specs.declared.network.Network.{Network}
 use Rattle.move_model.specs.declared.network.StopNo.{StopNo}
 use Rattle.route_split.specs.Route.{Route, IsRoute}

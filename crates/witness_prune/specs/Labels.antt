@@ -1,6 +1,7 @@
 -- What a search keeps at a place from one second to an earlier one.
 --     kept_of labels           the lists that are kept
 --     Fits routes rows k       they are as long as there are routes, calls, stops and places
+--     HasDue routes rows l     each row that departs from a stop at the second that is due there, or later, is held
 --     IsNone routes rows k     nothing is held, and no stop and no place has a label
 --     IsKept n q z p k         at the second z they are real, and all that was begun is done
 --     IsDone n q z p k         at the second z they are real, and all that is to be done before any second is done
@@ -15,6 +16,7 @@ use Rattle.two_trip_labels.specs.First.{RowsFit}
 use Rattle.two_trip_labels.specs.Second.{HeldFit}
 use Rattle.two_trip_labels.specs.Fresh.{AreNoFirst, AreNoHeld}
 use Rattle.two_trip_labels.specs.Closed.{Parts, Kept, IsClosed}
+use Rattle.two_trip_passes.specs.Stops.{AreDue}
 use Rattle.two_trip_passes.specs.Step.{IsReal}
 use Rattle.witness_prune.specs.declared.labels.Labels.{Labels}
 
@@ -37,6 +39,10 @@ pub record Fits (routes : List Route) (rows : Rows) (k : Kept) : Type 0 where
   pub boarded : length k.boarded ≡ length rows.places
   pub held : HeldFit routes k.held
   pub best : length k.best ≡ length rows.places
+
+pub record HasDue (routes : List Route) (rows : Rows) (labels : Labels) : Type 0 where
+  pub as_many : length labels.due.items ≡ length rows.places
+  pub due : AreDue routes labels.first_rows labels.due.items
 
 pub record IsNone (routes : List Route) (rows : Rows) (k : Kept) : Type 0 where
   pub first_rows : AreNoFirst routes k.first_rows

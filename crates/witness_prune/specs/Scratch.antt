@@ -16,7 +16,7 @@ use Rattle.two_trip_labels.specs.Closed.{Parts}
 use Rattle.two_trip_passes.specs.Step.{parts_of}
 use Rattle.witness_prune.specs.declared.scratch.Scratch.{Scratch}
 use Rattle.witness_prune.specs.Needed.{Pair}
-use Rattle.witness_prune.specs.Labels.{kept_of, Fits, IsKept}
+use Rattle.witness_prune.specs.Labels.{kept_of, Fits, HasDue, IsKept}
 
 abbrev pub row_from : Rows → ℕ → List ℕ
 row_from rows place = slice_index_or rows.seconds place []
@@ -33,6 +33,8 @@ pub record FitsScratch (routes : List Route) (rows : Rows) (s : Scratch) : Type 
   pub within : All (λ p. p < length rows.nodes) s.places.items
   pub foot : length s.foot.items ≡ length rows.places
   pub labels : Fits routes rows (kept_of s.labels)
+  pub due : HasDue routes rows s.labels
+  pub cuts : length s.cuts.items ≡ length rows.nodes
   pub own : length s.own.items ≡ length rows.places
   pub room : length rows.places ≤ vec_capacity s.pairs
 

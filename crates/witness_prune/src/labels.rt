@@ -11,11 +11,11 @@ ghost use Rattle.two_trip_rides.specs.Second.{no_ready, no_second, ready_at};
 ghost use Rattle.two_trip_labels.specs.First.{RowsFit, AreRoutesOf, FirstGoes, FirstSound};
 ghost use Rattle.two_trip_labels.specs.Second.{HeldFit, SecondSound};
 ghost use Rattle.two_trip_labels.specs.Closed.{ArePartsOf};
-ghost use Rattle.two_trip_passes.specs.Stops.{IsStopBoarded, IsFootOf};
+ghost use Rattle.two_trip_passes.specs.Stops.{IsStopBoarded, IsFootOf, AreDue};
 ghost use Rattle.two_trip_passes.specs.Walks.{WalkGoes, last_walked};
 ghost use Rattle.two_trip_passes.specs.Rides.{RideGoes, IsBoardedLow, AreReal};
 ghost use Rattle.two_trip_passes.specs.Step.{parts_of, AreRowsOf};
-ghost use Rattle.witness_prune.specs.Labels.{kept_of, Fits, IsNone, IsKept, IsDone};
+ghost use Rattle.witness_prune.specs.Labels.{kept_of, Fits, HasDue, IsNone, IsKept, IsDone};
 
 use move_model::NoMemory;
 use piece_laws::{Ready, Second};
@@ -39,10 +39,11 @@ const NO_SECOND: Second = Second {
     label: NO_READY,
 };
 
-/// The rows that first rides hold and when these are left at each stop, from when walks were made, when the passenger is
+/// The second from which on no row that isn't held departs from each stop, the rows that first rides hold and when these are left at each stop, from when walks were made, when the passenger is
 /// ready at each place, with which label each stop was boarded, and the rows that second rides hold with their keys.
 #[derive(Drop)]
 pub struct Labels {
+    pub due: Vec<u32>,
     pub first_rows: FirstRows,
     pub first: Vec<u32>,
     pub walked: Vec<u32>,
@@ -100,6 +101,7 @@ fn board(
     routes: &[RouteRows],
     foot: &[u32],
     second: u32,
+    due: &mut Vec<u32>,
     rows: &mut FirstRows,
     first: &mut Vec<u32>,
 )
@@ -108,12 +110,25 @@ fn board(
     requires stops { table.now.stops ≡ length first.old.items }
     requires foot { length foot.now ≡ length first.old.items }
     requires fit { RowsFit routes.now rows.old }
+    requires dues { length due.old.items ≡ length first.old.items }
+    requires due { AreDue routes.now rows.old due.old.items }
     ensures goes { FirstGoes routes.now foot.now second rows.old rows.new first.old.items first.new.items }
+    ensures dues { length due.new.items ≡ length due.old.items }
+    ensures due { AreDue routes.now rows.new due.new.items }
     ensures caught { (x : ℕ) → x < length first.old.items → IsStopBoarded routes.now (second + slice_index foot.now x + table.now.buffer) rows.new x }
     ensures sound { (s : Source) → s.second ≡ second → s.network.buffer ≡ table.now.buffer → AreRoutesOf s.network.trips routes.now → IsFootOf s foot.now
         → FirstSound s routes.now rows.old first.old.items → FirstSound s routes.now rows.new first.new.items }
 {
-    board_all(table, routes, foot, second, rows, first.as_mut_slice());
+    let dues = due.as_mut_slice();
+    board_all(
+        table,
+        routes,
+        foot,
+        second,
+        dues,
+        rows,
+        first.as_mut_slice(),
+    );
 }
 
 // Walks on from all stops.
@@ -122,6 +137,7 @@ fn walk(
     foot: &[u32],
     second: u32,
     first: &[u32],
+    cuts: &mut Vec<u32>,
     walked: &mut Vec<u32>,
     ready: &mut Vec<Ready>,
 )
@@ -129,12 +145,15 @@ fn walk(
     requires walked { length walked.old.items ≡ length first.now }
     requires foot { length foot.now ≡ length rows.now.nodes }
     requires ready { length ready.old.items ≡ length rows.now.nodes }
+    requires cuts { length cuts.old.items ≡ length rows.now.nodes }
     ensures goes { WalkGoes rows.now foot.now second first.now walked.old.items walked.new.items ready.old.items ready.new.items }
     ensures low { (x : ℕ) → x < length first.now → last_walked walked.new.items x ≤ slice_index first.now x }
+    ensures cuts { length cuts.new.items ≡ length cuts.old.items }
 {
     let from = walked.as_mut_slice();
     let labels = ready.as_mut_slice();
-    walk_all(rows, foot, second, first, from, labels);
+    let limits = cuts.as_mut_slice();
+    walk_all(rows, foot, second, first, limits, from, labels);
 }
 
 // Boards second rides from all stops.
@@ -174,10 +193,12 @@ fn ride(
 impl Labels {
     /// Nothing is held, and no stop and no place has a label.
     pub fn new(alloc: Global, routes: &[RouteRows], rows: &StopRows) -> Result<Labels, NoMemory>
-        ensures { IfOk result (λ labels. IsNone routes.now rows.now (kept_of labels)) }
+        ensures none { IfOk result (λ labels. IsNone routes.now rows.now (kept_of labels)) }
+        ensures due { IfOk result (HasDue routes.now rows.now) }
     {
         let stops = rows.stops() as usize;
         let places = rows.places() as usize;
+        let due = no_seconds(alloc, stops)?;
         let first_rows = FirstRows::new(alloc, routes)?;
         let first = no_seconds(alloc, stops)?;
         let walked = no_seconds(alloc, stops)?;
@@ -186,6 +207,7 @@ impl Labels {
         let held = HeldRows::new(alloc, routes)?;
         let best = no_keys(alloc, stops)?;
         Ok(Labels {
+            due,
             first_rows,
             first,
             walked,
@@ -198,8 +220,10 @@ impl Labels {
 
     /// Forgets all that is kept.
     pub fn clear(&mut self)
-        ensures { (routes : List Route) (rows : Rows) → Fits routes rows (kept_of self.old) → IsNone routes rows (kept_of self.new) }
+        ensures none { (routes : List Route) (rows : Rows) → Fits routes rows (kept_of self.old) → IsNone routes rows (kept_of self.new) }
+        ensures due { (routes : List Route) (rows : Rows) → HasDue routes rows self.old → HasDue routes rows self.new }
     {
+        clear_seconds(&mut self.due);
         self.first_rows.clear();
         clear_seconds(&mut self.first);
         clear_seconds(&mut self.walked);
@@ -209,7 +233,8 @@ impl Labels {
         clear_keys(&mut self.best);
     }
 
-    /// Goes on to an earlier second: what became catchable is boarded, and what follows from it is done.
+    /// Goes on to an earlier second: what became catchable is boarded, and what follows from it is done. The cuts are scratch
+    /// memory.
     pub fn advance(
         &mut self,
         table: &Timetable,
@@ -219,16 +244,21 @@ impl Labels {
         foot: &[u32],
         foot_row: &[u32],
         second: u32,
+        cuts: &mut Vec<u32>,
     )
         requires routes { routes.now ≡ table.now.routes }
         requires whole { All (IsRoute (length rows.now.places)) routes.now }
         requires stops { table.now.stops ≡ length rows.now.places }
         requires fits { Fits routes.now rows.now (kept_of self.old) }
+        requires due { HasDue routes.now rows.now self.old }
         requires places { places.now ≡ rows.now.places }
         requires within { All (λ p. p < length rows.now.nodes) places.now }
         requires foot { length foot.now ≡ length rows.now.places }
         requires foot_row { length foot_row.now ≡ length rows.now.nodes }
+        requires cuts { length cuts.old.items ≡ length rows.now.nodes }
         ensures fits { Fits routes.now rows.now (kept_of self.new) }
+        ensures due { HasDue routes.now rows.now self.new }
+        ensures cuts { length cuts.new.items ≡ length cuts.old.items }
         ensures done { (n : Network) (q : NodeNo) (z : ℕ) → IsNetwork n → n.buffer ≡ table.now.buffer → AreRowsOf n rows.now
             → ArePartsOf n q (parts_of routes.now foot.now foot_row.now rows.now) → second ≤ z
             → IsKept n q z (parts_of routes.now foot.now foot_row.now rows.now) (kept_of self.old)
@@ -239,6 +269,7 @@ impl Labels {
             routes,
             foot,
             second,
+            &mut self.due,
             &mut self.first_rows,
             &mut self.first,
         );
@@ -248,6 +279,7 @@ impl Labels {
             foot_row,
             second,
             first,
+            cuts,
             &mut self.walked,
             &mut self.ready,
         );

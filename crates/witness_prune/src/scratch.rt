@@ -9,7 +9,7 @@ ghost use Rattle.route_split.specs.Calls.{HoldsTrips};
 ghost use Rattle.stop_rows.specs.Rows.{Rows, entry, place_at};
 ghost use Rattle.piece_laws.specs.Tables.{OwnStands};
 ghost use Rattle.two_trip_passes.specs.Own.{own_at};
-ghost use Rattle.two_trip_passes.specs.Read.{HasRead};
+ghost use Rattle.two_trip_passes.specs.Read.{IsFound, HasRead};
 ghost use Rattle.witness_prune.specs.Needed.{Pair};
 ghost use Rattle.witness_prune.specs.Labels.{kept_of, Fits, IsNone};
 ghost use Rattle.witness_prune.specs.Scratch.{IsFootFrom, FitsScratch, IsAt, AddsNeeded};
@@ -24,13 +24,14 @@ use stop_rows::StopRows;
 use two_trip_passes::{own_all, read_all};
 use two_trip_rides::NEVER;
 
-/// The place of each stop, the seconds on foot to each, what is kept, the least arrivals of the rides of a start, and the
-/// pairs that a step reads.
+/// The place of each stop, the seconds on foot to each, what is kept, the cuts of a pass of walks, the least arrivals of the
+/// rides of a start, and the pairs that a step reads.
 #[derive(Drop)]
 pub struct Scratch {
     pub places: Vec<u32>,
     pub foot: Vec<u32>,
     pub labels: Labels,
+    pub cuts: Vec<u32>,
     pub own: Vec<u32>,
     pub pairs: Vec<(StopNo, StopNo)>,
 }
@@ -100,27 +101,28 @@ fn put_own(
     own_rides(table, routes, stops, second, own.as_mut_slice());
 }
 
-// Reads the pairs of a step off the labels.
+// Reads the pairs of a step off the labels, but for some that are known.
 fn read_pairs(
     rows: &StopRows,
     second: u32,
     foot: &[u32],
     own: &[u32],
     labels: &Labels,
+    known: &[(StopNo, StopNo)],
     pairs: &mut Vec<(StopNo, StopNo)>,
 )
     requires foot { length foot.now ≡ length rows.now.places }
     requires boarded { length labels.now.boarded.items ≡ length rows.now.places }
     requires best { length labels.now.best.items ≡ length rows.now.places }
     requires room { length rows.now.places ≤ vec_capacity pairs.old }
-    ensures pairs { (q : Pair) → Contains pairs.new.items q
-        ↔ HasRead rows.now foot.now second own.now labels.now.boarded.items labels.now.best.items (length rows.now.places) q.0 q.1 }
+    ensures pairs { (q : Pair) → IsFound known.now pairs.new.items q
+        ↔ (Contains known.now q ⊎ HasRead rows.now foot.now second own.now labels.now.boarded.items labels.now.best.items (length rows.now.places) q.0 q.1) }
     ensures room { length rows.now.places ≤ vec_capacity pairs.new }
 {
     pairs.clear();
     let boarded = labels.boarded.as_slice();
     let best = labels.best.as_slice();
-    read_all(rows, second, foot, own, boarded, best, pairs);
+    read_all(rows, second, foot, own, boarded, best, known, pairs);
 }
 
 impl Scratch {
@@ -132,12 +134,14 @@ impl Scratch {
         let labels = Labels::new(alloc, routes, rows)?;
         let stops = rows.stops();
         let foot = no_seconds(alloc, stops as usize)?;
+        let cuts = no_seconds(alloc, rows.places() as usize)?;
         let own = no_seconds(alloc, stops as usize)?;
         let pairs = Vec::with_capacity(alloc, stops as usize)?;
         Ok(Scratch {
             places,
             foot,
             labels,
+            cuts,
             own,
             pairs,
         })
@@ -186,11 +190,21 @@ impl Scratch {
         let row = rows.row(place);
         let places = self.places.as_slice();
         let foot = self.foot.as_slice();
+        let cuts = &mut self.cuts;
         self.labels
-            .advance(table, routes, rows, places, foot, row, second);
+            .advance(table, routes, rows, places, foot, row, second, cuts);
         put_own(table, routes, stops, second, &mut self.own);
         let own = self.own.as_slice();
-        read_pairs(rows, second, foot, own, &self.labels, &mut self.pairs);
+        let known = needed.as_slice();
+        read_pairs(
+            rows,
+            second,
+            foot,
+            own,
+            &self.labels,
+            known,
+            &mut self.pairs,
+        );
         let pairs = self.pairs.as_slice();
         needed.insert_all(pairs)
     }

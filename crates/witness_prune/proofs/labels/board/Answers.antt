@@ -4,7 +4,7 @@ use Rattle.route_split.specs.Route.{IsRoute}
 use Rattle.two_trip_rides.specs.First.{Source}
 use Rattle.two_trip_labels.specs.First.{AreRoutesOf, FirstGoes, FirstSound}
 use Rattle.two_trip_labels.proofs.Viewed.{written}
-use Rattle.two_trip_passes.specs.Stops.{IsStopBoarded, IsFootOf}
+use Rattle.two_trip_passes.specs.Stops.{IsStopBoarded, IsFootOf, AreDue}
 use Rattle.witness_prune.proofs.labels.board.Goals as goal
 
 pub board_all-requires-clause-whole : goal.board_all-requires-clause-whole
@@ -43,3 +43,21 @@ returns-clause-sound c =
     (sym (written new c.args.first.now.items (vec_len c.args.first.now) many))
     (subst (λ (xs : List ℕ). (s : Source) → s.second ≡ c.args.second → s.network.buffer ≡ c.args.table.now.buffer → AreRoutesOf s.network.trips c.args.routes.now → IsFootOf s c.args.foot.now
     → FirstSound s c.args.routes.now rows xs → FirstSound s c.args.routes.now c.board_all.new.rows new) c.as_mut_slice.ensures.value f.sound)
+
+pub board_all-requires-clause-dues : goal.board_all-requires-clause-dues
+board_all-requires-clause-dues c = ap length c.as_mut_slice-dues.ensures.value ∙ c.requires.dues ∙ sym (ap length c.as_mut_slice.ensures.value)
+
+pub board_all-requires-clause-due : goal.board_all-requires-clause-due
+board_all-requires-clause-due c = subst (λ (xs : List ℕ). AreDue c.args.routes.now c.args.rows.now xs) (sym c.as_mut_slice-dues.ensures.value) c.requires.due
+
+pub returns-clause-dues : goal.returns-clause-dues
+returns-clause-dues c =
+    let new = c.board_all.new.due in
+    let many : length new ≡ vec_len c.args.due.now = c.board_all.ensures.dues ∙ c.as_mut_slice-dues.ensures.len in
+    ap length (written new c.args.due.now.items (vec_len c.args.due.now) many) ∙ c.board_all.ensures.dues ∙ ap length c.as_mut_slice-dues.ensures.value
+
+pub returns-clause-due : goal.returns-clause-due
+returns-clause-due c =
+    let new = c.board_all.new.due in
+    let many : length new ≡ vec_len c.args.due.now = c.board_all.ensures.dues ∙ c.as_mut_slice-dues.ensures.len in
+    subst (λ (xs : List ℕ). AreDue c.args.routes.now c.board_all.new.rows xs) (sym (written new c.args.due.now.items (vec_len c.args.due.now) many)) c.board_all.ensures.due

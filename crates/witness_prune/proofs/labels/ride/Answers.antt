@@ -1,4 +1,4 @@
-use Rattle.std.proofs.Common.{◌≡◌, ◌<◌, ◌∙◌, ◌++◌, ℕ, List, length, take, drop, vec_len, sym, ap, subst}
+use Rattle.std.proofs.Common.{◌≡◌, ◌<◌, ◌∙◌, ◌++◌, List, length, take, drop, vec_len, sym, ap, subst}
 use Rattle.std.specs.Prelude.{All}
 use Rattle.move_model.specs.declared.network.StopNo.{StopNo}
 use Rattle.route_split.specs.Route.{IsRoute}

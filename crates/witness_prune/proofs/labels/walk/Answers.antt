@@ -30,3 +30,12 @@ returns-clause-low c =
     let walked = c.walk_all.new.walked in
     let many : length walked ≡ vec_len c.args.walked.now = f.goes.as_many ∙ c.as_mut_slice-from.ensures.len in
     subst (λ (xs : List ℕ). (x : ℕ) → x < length c.args.first.now → last_walked xs x ≤ slice_index c.args.first.now x) (sym (written walked c.args.walked.now.items (vec_len c.args.walked.now) many)) f.low
+
+pub walk_all-requires-clause-cuts : goal.walk_all-requires-clause-cuts
+walk_all-requires-clause-cuts c = ap length c.as_mut_slice-limits.ensures.value ∙ c.requires.cuts
+
+pub returns-clause-cuts : goal.returns-clause-cuts
+returns-clause-cuts c =
+    let new = c.walk_all.new.cuts in
+    let many : length new ≡ vec_len c.args.cuts.now = c.walk_all.ensures.cuts ∙ c.as_mut_slice-limits.ensures.len in
+    ap length (written new c.args.cuts.now.items (vec_len c.args.cuts.now) many) ∙ c.walk_all.ensures.cuts ∙ ap length c.as_mut_slice-limits.ensures.value

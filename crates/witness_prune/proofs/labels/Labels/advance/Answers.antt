@@ -1,4 +1,4 @@
-use Rattle.std.proofs.Common.{◌≡◌, ◌+◌, ◌<◌, ◌≤◌, ◌∙◌, ℕ, List, length, sym, ap, subst, arith}
+use Rattle.std.proofs.Common.{◌≡◌, ◌<◌, ◌≤◌, ◌∙◌, ℕ, List, length, sym, ap, subst}
 use Rattle.std.specs.Prelude.{All, slice_index}
 use Rattle.move_model.specs.declared.network.StopNo.{StopNo}
 use Rattle.route_split.specs.Route.{IsRoute}
@@ -109,3 +109,9 @@ returns-clause-done c n q z ok same are parts le kept =
       closed = λ h. advance_closed n q z second routes foot foot_row rows buffer k first_rows first walked ready boarded held best same are parts le
           c.requires.fits.first c.requires.fits.best c.requires.foot passes h kept.closed;
     }
+
+pub board-requires-clause-dues : goal.board-requires-clause-dues
+board-requires-clause-dues c = c.requires.due.as_many ∙ sym c.requires.fits.first
+
+pub returns-clause-due : goal.returns-clause-due
+returns-clause-due c = record { as_many = c.board.ensures.dues ∙ c.requires.due.as_many; due = c.board.ensures.due }

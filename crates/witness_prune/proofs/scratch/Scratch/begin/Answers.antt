@@ -13,10 +13,12 @@ returns-clause-fits c = λ routes fits.
       places = fits.places;
       within = fits.within;
       foot = ap length (written new s.foot.items (vec_len s.foot) many) ∙ c.put_foot.ensures.many ∙ ap length c.as_mut_slice-foot.ensures.value ∙ fits.foot;
-      labels = none_fits routes c.args.rows.now (kept_of c.clear.new.self) (c.clear.ensures routes c.args.rows.now fits.labels);
+      labels = none_fits routes c.args.rows.now (kept_of c.clear.new.self) (c.clear.ensures.none routes c.args.rows.now fits.labels);
+      due = c.clear.ensures.due routes c.args.rows.now fits.due;
+      cuts = fits.cuts;
       own = fits.own;
       room = fits.room;
     }
 
 pub returns-clause-none : goal.returns-clause-none
-returns-clause-none c = λ routes fits. c.clear.ensures routes c.args.rows.now fits.labels
+returns-clause-none c = λ routes fits. c.clear.ensures.none routes c.args.rows.now fits.labels

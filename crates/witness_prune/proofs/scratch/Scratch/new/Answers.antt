@@ -10,7 +10,9 @@ returns c = record {
   places = c.in_ok-places.ensures.places;
   within = c.in_ok-places.ensures.within;
   foot = ap length c.in_ok-foot.ensures ∙ length-replicate c.stops-stops.result never ∙ c.stops-stops.ensures;
-  labels = none_fits c.args.routes.now c.args.rows.now (kept_of c.in_ok-labels.labels) c.in_ok-labels.ensures;
+  labels = none_fits c.args.routes.now c.args.rows.now (kept_of c.in_ok-labels.labels) c.in_ok-labels.ensures.none;
+  due = c.in_ok-labels.ensures.due;
+  cuts = ap length c.in_ok-cuts.ensures ∙ length-replicate c.places.result never ∙ c.places.ensures;
   own = ap length c.in_ok-own.ensures ∙ length-replicate c.stops-stops.result never ∙ c.stops-stops.ensures;
   room = omega (arith, c.in_ok-pairs.ensures.capacity, c.stops-stops.ensures);
 }

@@ -1,4 +1,4 @@
-use Rattle.std.proofs.Common.{◌≡◌, ◌+◌, ◌<◌, ◌⊎◌, ◌∙◌, ℕ, List, get_or, length, sym, subst, arith}
+use Rattle.std.proofs.Common.{◌+◌, ◌<◌, ◌⊎◌, ◌∙◌, ℕ, List, get_or, length, sym, subst, arith}
 use Rattle.std.proofs.lemmas.List.Elements.{All-contains}
 use Rattle.std.proofs.lemmas.Option.{slice_get-get_or}
 use Rattle.std.proofs.lemmas.Result.{on_ok_weaker}
@@ -8,7 +8,7 @@ use Rattle.move_model.specs.declared.network.StopNo.{StopNo}
 use Rattle.route_split.specs.Route.{Route, IsRoute}
 use Rattle.route_split.specs.Calls.{HoldsTrips}
 use Rattle.two_trip_labels.specs.Closed.{last_second}
-use Rattle.two_trip_passes.specs.Read.{HasRead}
+use Rattle.two_trip_passes.specs.Read.{IsFound, HasRead}
 use Rattle.witness_prune.specs.Needed.{Pair}
 use Rattle.witness_prune.specs.Labels.{kept_of}
 use Rattle.witness_prune.proofs.NeededTable.{all_rows, stands_at, step_done, step_adds}
@@ -20,6 +20,8 @@ returns-clause-fits c = record {
   within = c.requires.fits.within;
   foot = c.requires.fits.foot;
   labels = c.advance.ensures.fits;
+  due = c.advance.ensures.due;
+  cuts = c.advance.ensures.cuts ∙ c.requires.fits.cuts;
   own = c.put_own.ensures.many ∙ c.requires.fits.own;
   room = c.read_pairs.ensures.room;
 }
@@ -59,10 +61,11 @@ returns-clause-ok c n z parts le at stands =
     stands_at n rows table parts place q u here (omega (arith, low, parts.table_is.stops_are)) (stands u is) in
     let holds = subst (λ (rs : List Route). HoldsTrips n.trips rs) (sym c.requires.routes) parts.table_is.holds in
     let owns = c.put_own.ensures.stands n (sym parts.table_is.buffer_is) holds in
+    let found = λ (ns : List Pair). λ (fs : List ℕ). λ (xs : List ℕ). (p : Pair) → IsFound ns c.read_pairs.new.pairs.items p ↔ (Contains ns p ⊎ HasRead rows fs c.args.second xs k.boarded k.best (length rows.places) p.0 p.1) in
     let read =
-    subst (λ (xs : List ℕ). (p : Pair) → Contains c.read_pairs.new.pairs.items p ↔ HasRead rows foot c.args.second xs k.boarded k.best (length rows.places) p.0 p.1) c.as_slice-own.ensures.value
-    (subst (λ (xs : List ℕ). (p : Pair) → Contains c.read_pairs.new.pairs.items p ↔ HasRead rows xs c.args.second c.as_slice-own.result.now k.boarded k.best (length rows.places) p.0 p.1)
-    c.as_slice-foot.ensures.value c.read_pairs.ensures.pairs) in
+    subst (λ (xs : List ℕ). found c.args.needed.now foot xs) c.as_slice-own.ensures.value
+    (subst (λ (xs : List ℕ). found c.args.needed.now xs c.as_slice-own.result.now) c.as_slice-foot.ensures.value
+    (subst (λ (ns : List Pair). found ns c.as_slice-foot.result.now c.as_slice-own.result.now) c.as_slice-known.ensures.pairs c.read_pairs.ensures.pairs)) in
     on_ok_weaker _
     (λ (all : (p : Pair) → Contains c.insert_all.new.self p ↔ (Contains c.args.needed.now p ⊎ Contains c.as_slice-pairs.result.now p)).
     step_adds n rows table parts routes c.requires.routes whole q place here foot at.foot c.args.stops.now c.args.second own k c.args.needed.now c.read_pairs.new.pairs.items c.insert_all.new.self

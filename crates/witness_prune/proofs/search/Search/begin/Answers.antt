@@ -1,4 +1,4 @@
-use Rattle.std.proofs.Common.{◌<◌, ◌∙◌, List, length, sym, ap, subst, arith}
+use Rattle.std.proofs.Common.{◌<◌, ◌∙◌, length, sym, ap, arith}
 use Rattle.witness_prune.specs.Search.{Searching}
 use Rattle.witness_prune.proofs.SearchLemmas.{search_begun}
 use Rattle.witness_prune.proofs.search.Search.begin.Goals as goal

@@ -1,4 +1,4 @@
-use Rattle.std.proofs.Common.{◌<◌, List, length, ap, sym, subst, ◌∙◌}
+use Rattle.std.proofs.Common.{List, sym, subst}
 use Rattle.route_split.specs.Route.{Route}
 use Rattle.witness_prune.specs.Scratch.{FitsScratch}
 use Rattle.witness_prune.specs.Search.{AreParts}
