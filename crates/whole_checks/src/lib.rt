@@ -13,6 +13,8 @@ mod halves;
 #[cfg(test)]
 mod networks;
 #[cfg(test)]
+mod ranges;
+#[cfg(test)]
 mod rides;
 #[cfg(test)]
 mod rounds;

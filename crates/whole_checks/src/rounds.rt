@@ -21,20 +21,20 @@ use steps::Steps;
 
 /// A network, the same in two halves, and the distances between its vertices both ways.
 #[derive(Drop)]
-struct Case {
-    network: Network,
+pub struct Case {
+    pub network: Network,
     halves: Network,
-    away: ArrivalRows,
+    pub away: ArrivalRows,
     back: ArrivalRows,
 }
 
 /// A query.
 #[derive(Clone, Copy)]
-struct Asked {
-    from: NodeNo,
-    to: NodeNo,
-    depart: u32,
-    limit: u8,
+pub struct Asked {
+    pub from: NodeNo,
+    pub to: NodeNo,
+    pub depart: u32,
+    pub limit: u8,
 }
 
 /// How many queries gain by a second ride and by a third or fourth, for how many the walk on foot is earlier than any
@@ -47,7 +47,8 @@ struct Tally {
     none: u32,
 }
 
-fn is_earlier(one: Option<u64>, other: Option<u64>) -> bool {
+/// Whether one arrival is earlier than another, or there is no other.
+pub fn is_earlier(one: Option<u64>, other: Option<u64>) -> bool {
     match (one, other) {
         (Some(one), Some(other)) => one < other,
         (Some(_), None) => true,
@@ -69,7 +70,8 @@ impl Tally {
     }
 }
 
-fn case_of(alloc: Global, seed: u32) -> Result<Case, NoMemory> {
+/// The network of a seed.
+pub fn case_of(alloc: Global, seed: u32) -> Result<Case, NoMemory> {
     let network = network_of(alloc, seed)?;
     let halves = halves_of(alloc, &network)?;
     let away = all_distances(alloc, &network)?;
@@ -82,9 +84,11 @@ fn case_of(alloc: Global, seed: u32) -> Result<Case, NoMemory> {
     })
 }
 
-fn asked_of(draws: &mut Draws, nodes: u32) -> Asked
+/// A query between two vertices.
+pub fn asked_of(draws: &mut Draws, nodes: u32) -> Asked
     ensures some { 2 ≤ result.limit }
     ensures limit { result.limit ≤ 4 }
+    ensures early { result.depart < 8 }
 {
     Asked {
         from: NodeNo(1 + draws.below(nodes.max(1))),
@@ -94,8 +98,8 @@ fn asked_of(draws: &mut Draws, nodes: u32) -> Asked
     }
 }
 
-// The rows of a query, and the list of all pairs in an order that the step gives.
-fn walks_of(
+/// The rows of a query, and the list of all pairs in an order that the step gives.
+pub fn walks_of(
     alloc: Global,
     case: &Case,
     asked: Asked,
@@ -114,8 +118,8 @@ fn walks_of(
     Ok(Walks { first, last, list })
 }
 
-// Runs the rounds for a query.
-fn run<L: Ledger>(
+/// Runs the rounds for a query.
+pub fn run<L: Ledger>(
     table: &Timetable,
     walks: &Walks,
     asked: Asked,

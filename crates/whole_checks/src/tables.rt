@@ -18,7 +18,9 @@ fn have_few_calls(trips: &[Trip]) -> bool
 }
 
 /// The timetable of a network, or None where it breaks a rule.
-pub fn table_of(alloc: Global, n: &Network) -> Result<Option<Timetable>, NoMemory> {
+pub fn table_of(alloc: Global, n: &Network) -> Result<Option<Timetable>, NoMemory>
+    ensures { IfOk result (λ made. IfSome made (λ table. All (λ trip. All (λ call. call.stop.0 < table.stops) trip.calls) n.now.trips)) }
+{
     let few = n.trips.len() < 1000 && n.stops.len() < 1000 && n.arcs.len() < 1000;
     if !few || !have_few_calls(n.trips.as_slice()) {
         return Ok(None);

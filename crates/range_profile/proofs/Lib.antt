@@ -1,0 +1,3 @@
+pub mod SeedLemmas
+pub mod WindowLemmas
+pub mod ProfileLemmas

@@ -1,0 +1,4 @@
+pub mod RideLemmas
+pub mod LeadLemmas
+pub mod OpenLemmas
+pub mod SearchLemmas
