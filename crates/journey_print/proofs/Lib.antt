@@ -1,4 +1,4 @@
 mod ArcLemmas
-mod LegLemmas
+pub mod LegLemmas
 mod RowLemmas
-mod WritingLemmas
+pub mod WritingLemmas

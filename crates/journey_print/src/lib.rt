@@ -2,6 +2,7 @@
 //!
 //! - [`build`] gives the journey with given rides, whose walks are found in a hierarchy.
 //! - [`write_header`] and [`write_point`] write the rows.
+//! - [`new_writer`], [`add_record`], [`add_legs`], [`text_of`] and [`send`] are what rows of other answers are made of.
 #![tactic(auto)]
 
 mod answer;
@@ -12,4 +13,6 @@ mod text;
 
 pub use answer::{PointAnswer, PrintStop};
 pub use journey_build::build;
+pub use legs::add_legs;
 pub use rows::{write_header, write_point};
+pub use text::{add_record, new_writer, send, text_of};
