@@ -1,0 +1,4 @@
+mod PairLists
+mod SpanLaws
+mod CostLaws
+mod FootLaws
