@@ -1,0 +1,10 @@
+//! Tests of the network file: the files of two small networks, and altered files.
+//!
+//! Tests stand in a crate of their own, so that a library is proved once, and they see of it what any caller sees. The files
+//! and their digests were made by another program.
+#![tactic(auto)]
+
+#[cfg(test)]
+mod files;
+#[cfg(test)]
+mod tests;
