@@ -157,7 +157,8 @@ fn numbers_the_queries_from_one(rt: HostRuntime) -> Result<(), Fail> {
     )
 }
 
-// The first trip calls at E and at B, and both transfers reach C at the same second.
+// The first trip calls at E and at B, and both transfers reach C at the same second. The one that leaves the trip earlier is
+// the shortcut.
 const TWO_TRANSFERS: [File; 4] = [
     ("base/stops.txt", b"stop_id\nA\nB\nC\nD\nE\n"),
     (
@@ -174,20 +175,11 @@ const TWO_TRANSFERS: [File; 4] = [
     ),
 ];
 
-// The rows of kind pair.
-fn pairs_of(alloc: Global, text: &str) -> Result<String, Fail> {
-    let mut pairs = String::new(alloc);
-    for line in text.lines() {
-        if line.contains(",pair,") {
-            pairs.push_str(line)?;
-            pairs.push_str("\n")?;
-        }
-    }
-    Ok(pairs)
-}
+const BY_THE_EARLIER_STOP: &[u8] =
+    b"1,1,pair,0,node:1,1,node:4,4,07:55:00,,09:55:00\n1,1,walk,,,1,,4,07:55:00,09:55:00,\n1,2,pair,2,node:1,1,node:4,4,07:55:00,,08:30:00\n1,2,ride,t1,A,1,E,5,08:00:00,08:08:00,\n1,2,walk,,,5,,3,08:08:00,08:14:00,\n1,2,ride,t2,C,3,D,4,08:15:00,08:30:00,\n";
 
 #[test]
-fn prints_one_of_two_equal_transfers(rt: HostRuntime) -> Result<(), Fail> {
+fn goes_by_the_shortcut_of_two_equal_transfers(rt: HostRuntime) -> Result<(), Fail> {
     let alloc = rt.alloc();
     let mut held = MemFiles::new(alloc);
     put_all(
@@ -197,15 +189,5 @@ fn prints_one_of_two_equal_transfers(rt: HostRuntime) -> Result<(), Fail> {
         &TWO_TRANSFERS,
         b"at,node:1,node:4,07:55:00,,2",
     )?;
-    let mut out = MemSink::new(alloc);
-    let mut err = MemSink::new(alloc);
-    let status = run_in(alloc, "", PLAN, &mut held, &mut out, &mut err)?;
-    assert_eq!(rt; status, Status::Done);
-    let text = std::str::from_utf8(out.taken())?;
-    let pairs = pairs_of(alloc, text)?;
-    assert_eq!(rt;
-        pairs.as_str(),
-        "1,1,pair,0,node:1,1,node:4,4,07:55:00,,09:55:00\n1,2,pair,2,node:1,1,node:4,4,07:55:00,,08:30:00\n"
-    );
-    Ok(())
+    expect_plan(&rt, alloc, "", PLAN, &mut held, BY_THE_EARLIER_STOP)
 }

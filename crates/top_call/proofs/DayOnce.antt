@@ -1,5 +1,5 @@
 -- A day has one day before it, and its trips are not both accepted and refused.
-use Rattle.std.proofs.Common.{◌≡◌, ◌≢◌, ◌∙◌, ℕ, ◌+◌, ◌*◌, ◌<◌, ◌≤◌, List, Bool, Some, None, refl, sym, ap, arith, inl, inr, ◌⊎◌, pos, neg_ℤ, ℤ}
+use Rattle.std.proofs.Common.{◌≡◌, ◌∙◌, ℕ, ◌+◌, ◌*◌, ◌<◌, ◌≤◌, List, Bool, Some, sym, ap, arith, inl, inr, pos}
 use Rattle.std.proofs.lemmas.Bool.{cases_eq, cases_order}
 use Rattle.jiff_core.specs.Calendar.{day_count, days_from_civil, IsCivilDate}
 use Rattle.jiff_core.proofs.SignedLemmas.{signed_arith}
@@ -7,7 +7,7 @@ use Rattle.jiff_core.proofs.CalendarLemmas.{days_from_civil-day_count, day_count
 use Rattle.move_model.specs.declared.network.Trip.{Trip}
 use Rattle.gtfs_feed.specs.declared.feed.Feed.{Feed}
 use Rattle.service_day.specs.Day.{IsDay, IsDayBefore, first_day, day_number, year_of, month_of, date_of}
-use Rattle.service_day.specs.Running.{running, AreRunningBefore}
+use Rattle.service_day.specs.Running.{running}
 use Rattle.service_day.specs.DayTrips.{day_trips, refusal_of}
 use Rattle.top_call.specs.declared.status.Status.{Status}
 use Rattle.top_call.specs.declared.status.Status.TheVariants as status

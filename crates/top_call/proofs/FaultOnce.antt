@@ -1,6 +1,6 @@
 -- The trips of a feed have one first fault: a row is of one trip, and a trip has one call of a row.
-use Rattle.std.proofs.Common.{◌≡◌, ◌∙◌, ℕ, zero, suc, ◌+◌, ◌-◌, ◌<◌, ◌≤◌, ◌==◌, ◌&&◌, Bool, true, false, not, cond, List, [], ◌∷◌, length, All, Option, Some, None, refl, sym, ap, subst, arith, inl, inr, if◌then◌else◌}
-use Rattle.std.specs.Prelude.{slice_get, slice_index_or, IsPermutation}
+use Rattle.std.proofs.Common.{◌≡◌, ◌∙◌, ℕ, zero, suc, ◌+◌, ◌-◌, ◌<◌, ◌==◌, ◌&&◌, Bool, true, false, List, [], ◌∷◌, All, Option, Some, None, refl, sym, ap, subst, arith, inl, inr, if◌then◌else◌}
+use Rattle.std.specs.Prelude.{slice_get}
 use Rattle.std.specs.List.{AllByRecursion, IsDistinct}
 use Rattle.std.proofs.lemmas.Bool.{cases_order}
 use Rattle.std.proofs.lemmas.Bool.Decides.{nat_tests}
@@ -13,7 +13,7 @@ use Rattle.trip_calls.specs.declared.kept.KeptCall.{KeptCall}
 use Rattle.trip_calls.specs.CallRules.{call_cause}
 use Rattle.trip_calls.specs.Order.{IsTripOrder}
 use Rattle.gtfs_feed.specs.Calls.{StopRows, is_place, is_call_of, kept_call, calls_behind, call_columns, trip_calls}
-use Rattle.gtfs_feed.specs.TripRules.{Goes, IsTripFault, HoldsBelow, IsFirstTripFault}
+use Rattle.gtfs_feed.specs.TripRules.{IsTripFault, IsFirstTripFault}
 use Rattle.top_call.proofs.StableLemmas.{order_unique}
 
 abbrev same_row : KeptCall → KeptCall → Bool

@@ -1,5 +1,5 @@
 -- The files of a feed hold one feed, and where they are accepted no rule is broken.
-use Rattle.std.proofs.Common.{◌≡◌, ◌∙◌, ℕ, ◌<◌, ◌≤◌, List, length, Option, Some, None, refl, sym, ap, arith, inl, inr, ◌⊎◌}
+use Rattle.std.proofs.Common.{◌≡◌, ◌∙◌, ℕ, List, length, Option, Some, None, refl, sym, ap, arith, inl, inr}
 use Rattle.std.specs.Prelude.{slice_get, slice_index_or, option_copied}
 use Rattle.std.specs.Borrow.{Bor}
 use Rattle.std.proofs.lemmas.Bool.{cases_lt}
@@ -7,22 +7,20 @@ use Rattle.std.proofs.lemmas.List.{same_lists, length-map}
 use Rattle.std.proofs.lemmas.Option.{slice_get_within}
 use Rattle.move_model.specs.declared.refusal.Cause.{Cause}
 use Rattle.move_model.specs.declared.refusal.FileKind.{FileKind}
-use Rattle.move_model.specs.declared.refusal.FileKind.TheVariants as kind
 use Rattle.gtfs_feed.specs.declared.feed.Feed.{Feed}
 use Rattle.gtfs_feed.specs.declared.feed.FeedBytes.{FeedBytes}
 use Rattle.gtfs_feed.specs.declared.feed.FeedTrip.{FeedTrip}
-use Rattle.gtfs_feed.specs.declared.feed.CopyRow.{CopyRow}
 use Rattle.gtfs_feed.specs.declared.feed.Service.{Service}
 use Rattle.gtfs_feed.specs.Calendar.{CalendarAccepted, IsCalendarRefusal}
-use Rattle.gtfs_feed.specs.Copies.{copies_in, copies_of, CopiesAccepted, IsCopiesRefusal}
+use Rattle.gtfs_feed.specs.Copies.{copies_in, CopiesAccepted, IsCopiesRefusal}
 use Rattle.gtfs_feed.specs.Dates.{names_in, DatesAccepted, IsDatesRefusal}
-use Rattle.gtfs_feed.specs.FeedFiles.{stop_rows, feed_services, ids_of, AreTrips, IsFeedOf, TripsStand, CallsStand, FeedAccepted, IsFrequencyRefusal, IsFeedRefusal}
-use Rattle.gtfs_feed.specs.Services.{weeks_of, dated_of, services_of, OptionAccepted, OptionRefused, IsOneThere, ServicesAccepted, IsServicesRefusal}
-use Rattle.gtfs_feed.specs.Stops.{stop_ids, stop_numbers, stops_broken, feed_stops, StopsAccepted, IsStopsRefusal}
-use Rattle.gtfs_feed.specs.Table.{file_broken, IsAccepted, IsTableRefusal}
-use Rattle.gtfs_feed.specs.TripRules.{Goes, Holds, TripsHold, IsCallsOf, IsFinished, IsFirstTripFault, StopTimesAccepted, IsStopTimesRefusal}
+use Rattle.gtfs_feed.specs.FeedFiles.{stop_rows, feed_services, ids_of, AreTrips, CallsStand, FeedAccepted, IsFrequencyRefusal, IsFeedRefusal}
+use Rattle.gtfs_feed.specs.Services.{weeks_of, dated_of, OptionAccepted, OptionRefused, IsOneThere, ServicesAccepted, IsServicesRefusal}
+use Rattle.gtfs_feed.specs.Stops.{feed_stops, StopsAccepted, IsStopsRefusal}
+use Rattle.gtfs_feed.specs.Table.{IsAccepted, IsTableRefusal}
+use Rattle.gtfs_feed.specs.TripRules.{Goes, Holds, TripsHold, IsFinished, IsFirstTripFault, StopTimesAccepted, IsStopTimesRefusal}
 use Rattle.gtfs_feed.specs.Calls.{StopRows, trip_calls}
-use Rattle.gtfs_feed.specs.Trips.{trip_ids, bare_trips, TripsAccepted, IsTripsRefusal}
+use Rattle.gtfs_feed.specs.Trips.{trip_ids, bare_trips, TripsAccepted}
 use Rattle.trip_calls.specs.declared.kept.KeptCall.{KeptCall}
 use Rattle.trip_calls.specs.Filled.{IsFilled}
 use Rattle.top_call.specs.Input.{Held, AreFeedFiles, IsFeedIn}

@@ -1,22 +1,19 @@
 -- A feed has one first broken rule.
-use Rattle.std.proofs.Common.{◌≡◌, ◌∙◌, ℕ, ◌<◌, ◌≤◌, List, length, Option, Some, None, refl, sym, ap, arith, inl, inr, ◌⊎◌}
+use Rattle.std.proofs.Common.{◌≡◌, ◌∙◌, ℕ, List, Option, Some, None, sym, ap, arith, inl, inr}
 use Rattle.std.specs.Prelude.{option_copied}
 use Rattle.std.specs.Borrow.{Bor}
 use Rattle.std.proofs.lemmas.Bool.{cases_order}
 use Rattle.move_model.specs.declared.refusal.Cause.{Cause}
-use Rattle.move_model.specs.declared.refusal.Cause.TheVariants as cause
 use Rattle.move_model.specs.declared.refusal.FileKind.{FileKind}
-use Rattle.move_model.specs.declared.refusal.FileKind.TheVariants as kind
 use Rattle.gtfs_feed.specs.declared.feed.FeedBytes.{FeedBytes}
-use Rattle.gtfs_feed.specs.declared.feed.FeedTrip.{FeedTrip}
 use Rattle.gtfs_feed.specs.Calls.{StopRows}
 use Rattle.gtfs_feed.specs.Calendar.{CalendarAccepted, IsCalendarRefusal}
 use Rattle.gtfs_feed.specs.Copies.{IsCopiesRefusal}
-use Rattle.gtfs_feed.specs.Dates.{DatesAccepted, IsDatesRefusal}
-use Rattle.gtfs_feed.specs.FeedFiles.{stop_rows, ids_of, TripsStand, CallsStand, IsFrequencyRefusal, IsFeedRefusal}
-use Rattle.gtfs_feed.specs.Services.{OptionAccepted, OptionRefused, ServicesAccepted, IsServicesRefusal}
+use Rattle.gtfs_feed.specs.Dates.{IsDatesRefusal}
+use Rattle.gtfs_feed.specs.FeedFiles.{stop_rows, ids_of, CallsStand, IsFrequencyRefusal, IsFeedRefusal}
+use Rattle.gtfs_feed.specs.Services.{OptionRefused, IsServicesRefusal}
 use Rattle.gtfs_feed.specs.Stops.{StopsAccepted, IsStopsRefusal}
-use Rattle.gtfs_feed.specs.Table.{file_broken, IsAccepted, IsRefusedRow, IsTableRefusal}
+use Rattle.gtfs_feed.specs.Table.{file_broken, IsRefusedRow, IsTableRefusal}
 use Rattle.gtfs_feed.specs.TripRules.{StopTimesAccepted, IsStopTimesRefusal}
 use Rattle.gtfs_feed.specs.Trips.{trip_ids, TripsAccepted, IsTripsRefusal}
 use Rattle.top_call.specs.Input.{Held, AreFeedFiles}

@@ -1,8 +1,8 @@
 -- The calls of a trip are filled in one way.
-use Rattle.std.proofs.Common.{◌≡◌, ◌∙◌, ℕ, zero, suc, ◌+◌, ◌-◌, ◌<◌, ◌≤◌, Bool, true, List, [], ◌∷◌, length, take, Option, Some, None, refl, sym, ap, arith, inl, inr, ◌⊎◌}
+use Rattle.std.proofs.Common.{◌≡◌, ◌∙◌, ℕ, zero, suc, ◌+◌, ◌-◌, ◌<◌, ◌≤◌, true, List, length, take, Option, Some, None, refl, sym, ap, arith, inl, inr, ◌⊎◌}
 use Rattle.std.specs.Prelude.{slice_get, slice_index_or}
 use Rattle.std.proofs.lemmas.Bool.{cases_lt}
-use Rattle.std.proofs.lemmas.Option.{slice_get_within, get_or_from_slice_get}
+use Rattle.std.proofs.lemmas.Option.{get_or_from_slice_get}
 use Rattle.std.proofs.lemmas.List.{same_lists}
 use Rattle.move_model.specs.declared.network.Call.{Call}
 use Rattle.trip_calls.specs.declared.kept.KeptCall.{KeptCall}
@@ -12,7 +12,7 @@ use Rattle.move_model.specs.declared.refusal.Cause.{Cause}
 use Rattle.move_model.specs.declared.refusal.Cause.TheVariants as cause
 use Rattle.refusals.specs.Refusal.{or_then}
 use Rattle.trip_calls.specs.CallRules.{call_cause, cause_of_call, repeated_broken, previous_sequence, no_time_broken, falls_broken, last_departure, HoldTogether, is_end}
-use Rattle.trip_calls.specs.Filled.{HasTimes, AllUntimed, IsBetween, IsFilled}
+use Rattle.trip_calls.specs.Filled.{HasTimes, IsBetween, IsFilled}
 use Rattle.top_call.proofs.ListLemmas.{slice_at}
 
 -- a call has times, or has none

@@ -1,8 +1,6 @@
 -- The files of a plan are not both accepted and rejected.
-use Rattle.std.proofs.Common.{◌≡◌, ◌≢◌, ◌∙◌, ◌⊎◌, ℕ, List, Option, Some, None, IfSome, refl, sym, ap, inl, inr}
+use Rattle.std.proofs.Common.{◌≡◌, ◌⊎◌, ℕ, List, Option, Some, None, IfSome, refl, ap, inl, inr}
 use Rattle.move_model.specs.declared.network.Network.{Network}
-use Rattle.move_model.specs.declared.network.Stop.{Stop}
-use Rattle.move_model.specs.declared.refusal.Cause.{Cause}
 use Rattle.move_model.specs.declared.refusal.FileKind.{FileKind}
 use Rattle.move_model.specs.declared.refusal.FileKind.TheVariants as kind
 use Rattle.move_model.specs.declared.refusal.Refusal.{Refusal}
@@ -19,7 +17,7 @@ use Rattle.move_files.specs.Outside.{Rose}
 use Rattle.move_files.specs.declared.outside.Files.{Ghosts}
 use Rattle.top_call.specs.Status.{FailsFile}
 use Rattle.top_call.specs.Words.{Plan, name_in}
-use Rattle.top_call.specs.Input.{Held, feed_order, IsFeedIn, IsNetworkIn, AreStopsIn, AreQueriesIn, InputAccepted}
+use Rattle.top_call.specs.Input.{Held, feed_order, IsFeedIn, IsNetworkIn, InputAccepted}
 use Rattle.top_call.specs.Rejected.{ComesUnlessStopped, NoneRose, FitsInput, RejectsFeed, RejectsNetwork, RejectsInput, by_feed_file, by_feed_rule, by_feed, by_day, by_graph, by_stops, by_network, by_queries_file, by_queries_rule}
 use Rattle.top_call.proofs.FeedOnce.{feed_once, feed_not_both}
 use Rattle.top_call.proofs.DayOnce.{day_not_both, day_rejected_once}

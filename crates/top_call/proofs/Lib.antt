@@ -1,3 +1,4 @@
+mod AnswerLemmas
 mod CauseLemmas
 mod RejectLemmas
 mod ListLemmas

@@ -1,6 +1,5 @@
 -- The stops are placed in one way, and where they are placed no rule is broken.
-use Rattle.std.proofs.Common.{◌≡◌, ◌≢◌, ◌∙◌, ℕ, ℤ, ◌<◌, ◌≤◌, List, length, Option, Some, None, refl, sym, ap, arith, inl, inr, option_map}
-use Rattle.std.specs.Prelude.{slice_get}
+use Rattle.std.proofs.Common.{◌≡◌, ◌∙◌, ℕ, ℤ, ◌<◌, List, Option, Some, None, refl, sym, ap, arith, inl, inr}
 use Rattle.std.proofs.lemmas.Bool.{cases_order}
 use Rattle.std.proofs.lemmas.List.{same_lists}
 use Rattle.gtfs_feed.specs.declared.feed.Feed.{Feed}
@@ -10,9 +9,9 @@ use Rattle.move_model.specs.declared.network.Stop.{Stop}
 use Rattle.move_model.specs.declared.refusal.FileKind.TheVariants as kind
 use Rattle.move_model.specs.declared.refusal.Refusal.{Refusal}
 use Rattle.street_graph.specs.declared.point.Point.{Point}
-use Rattle.stop_match.specs.Nearest.{HasPoint, IsNearest}
+use Rattle.stop_match.specs.Nearest.{IsNearest}
 use Rattle.stop_places.specs.declared.near.Near.{Near}
-use Rattle.stop_places.specs.Places.{IsNearPlace, IsPlaceBy, IsPlacedStop, ArePlaced, IsPlaceRefusal}
+use Rattle.stop_places.specs.Places.{IsNearPlace, IsPlaceBy, ArePlaced, IsPlaceRefusal}
 use Rattle.stop_places.specs.Table.{table_vertex}
 use Rattle.stop_places.proofs.Exact.{not_both, one_refusal}
 use Rattle.top_call.specs.declared.status.Status.{Status}

@@ -1,26 +1,15 @@
 -- The files GR and CO hold one graph and one list of points, and where they are accepted no rule is broken.
-use Rattle.std.proofs.Common.{◌≡◌, ◌≢◌, ◌∙◌, ℕ, ◌+◌, ◌-◌, ◌<◌, ◌≤◌, List, [], ◌∷◌, length, take, Bool, true, false, Option, Some, None, refl, sym, ap, arith, inl, inr, ◌⊎◌, codes}
-use Rattle.std.specs.Prelude.{slice_get, slice_index_or}
-use Rattle.std.specs.List.{list_any}
-use Rattle.std.proofs.lemmas.Bool.{cases_lt}
-use Rattle.std.proofs.lemmas.Bool.Decides.{nat_tests}
-use Rattle.std.proofs.lemmas.List.{same_lists, length-take-le}
-use Rattle.std.proofs.lemmas.List.Folds.{list_any_at}
-use Rattle.std.proofs.lemmas.Option.{slice_get_within, get_or_from_slice_get}
-use Rattle.move_model.specs.declared.network.Arc.{Arc}
+use Rattle.std.proofs.Common.{◌≡◌, ◌∙◌, ℕ, List, [], ◌∷◌, length, Option, Some, None, sym, ap, arith, inl, inr}
 use Rattle.move_model.specs.declared.refusal.Cause.{Cause}
 use Rattle.move_model.specs.declared.refusal.FileKind.{FileKind}
 use Rattle.move_model.specs.declared.refusal.FileKind.TheVariants as kind
 use Rattle.move_model.specs.Streets.{Streets}
 use Rattle.refusals.proofs.RefusalLemmas.{not_both}
-use Rattle.street_graph.specs.declared.point.Point.{Point}
 use Rattle.street_graph.specs.Gr as gr
-use Rattle.street_graph.specs.Co as co
 use Rattle.top_call.specs.declared.status.Status.{Status}
-use Rattle.top_call.specs.Words.{Plan, limit_of}
-use Rattle.top_call.specs.Input.{Held, is_required, IsRead, IsReadable, IsReadableAs, AllReadable, IsGraphIn, ArePointsIn}
+use Rattle.top_call.specs.Input.{Held, IsRead, IsReadable, IsReadableAs, AllReadable, IsGraphIn}
 use Rattle.top_call.proofs.RejectLemmas.{is_readable as read_text}
-use Rattle.top_call.specs.Rejected.{RejectsFile, RejectsFileAs, RejectsFiles, RejectsGraph, RejectsPoints, by_graph_file, by_graph_rule, by_points_file, by_points_rule}
+use Rattle.top_call.specs.Rejected.{RejectsFile, RejectsFileAs, RejectsFiles, RejectsGraph, by_graph_file, by_graph_rule}
 
 -- a file that can be read rejects nothing
 readable-as : (k : FileKind) (o : Option (List ℕ)) (s : Status) → IsReadableAs k o → RejectsFileAs k o s → ⊥

@@ -1,5 +1,5 @@
 -- The files GR and CO are rejected with one status.
-use Rattle.std.proofs.Common.{◌≡◌, ◌≢◌, ◌∙◌, ℕ, List, refl, sym, ap}
+use Rattle.std.proofs.Common.{◌≡◌, ◌∙◌, ℕ, sym, ap}
 use Rattle.move_model.specs.declared.refusal.FileKind.TheVariants as kind
 use Rattle.move_model.specs.declared.refusal.Refusal.{Refusal}
 use Rattle.street_graph.specs.Gr.{IsGrRefused}

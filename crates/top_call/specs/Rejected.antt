@@ -34,7 +34,6 @@ use Rattle.gtfs_feed.specs.declared.feed.FeedStop.{FeedStop}
 use Rattle.gtfs_feed.specs.FeedFiles.{IsFeedRefusal}
 use Rattle.service_day.specs.Running.{running}
 use Rattle.service_day.specs.DayTrips.{day_trips, refusal_of}
-use Rattle.street_graph.specs.declared.point.Point.{Point}
 use Rattle.street_graph.specs.Gr.{IsGrRefused}
 use Rattle.street_graph.specs.Co.{IsCoRefused}
 use Rattle.stop_places.specs.declared.near.Near.{Near}

@@ -17,12 +17,13 @@ use Rattle.move_model.specs.declared.refusal.FileKind.TheVariants as kind
 use Rattle.move_model.specs.declared.refusal.Cause.{Cause}
 use Rattle.move_model.specs.declared.refusal.Cause.TheVariants as cause
 use Rattle.move_model.specs.declared.refusal.Refusal.{Refusal}
-use Rattle.plan_core.specs.Answer.{PrintsAll, PrintsPart}
+use Rattle.answer_rows.specs.Printed.{PrintsAll, PrintsPart}
 use Rattle.top_call.specs.declared.status.Status.{Status}
 use Rattle.top_call.specs.declared.status.Status.TheVariants as status
 use Rattle.top_call.specs.Words.{Plan, name_in, file_text, IsNamed}
 use Rattle.top_call.specs.Reading.{MissedAt, FailedAt}
 use Rattle.top_call.specs.Input.{is_required}
+use Rattle.top_call.specs.Answered.{IsAnswerByShortcuts}
 
 abbrev pub exit_of : Status → ℕ
 exit_of status.Done = 0
@@ -164,12 +165,12 @@ IsThisInput n queries other others = (other ≡ n) × (others ≡ queries)
 
 -- behind the old bytes stands a prefix of the text of the first queries
 abbrev pub SendsPart : (Network → List Query → Type 0) → List ℕ → List ℕ → Type 0
-SendsPart Asked old new = (n : Network) × (queries : List Query) × Asked n queries × PrintsPart n queries old new
+SendsPart Asked old new = (n : Network) × (queries : List Query) × Asked n queries × PrintsPart n (IsAnswerByShortcuts n) queries old new
 
 -- Done sends the text of all queries; a failed write leaves a part of it, and want of memory too, or nothing; every other status
 -- comes before anything is sent.
 unfoldable pub Sends : (Network → List Query → Type 0) → List ℕ → List ℕ → Status → Type 0
-Sends Asked old new status.Done = (n : Network) × (queries : List Query) × Asked n queries × PrintsAll n queries old new
+Sends Asked old new status.Done = (n : Network) × (queries : List Query) × Asked n queries × PrintsAll n (IsAnswerByShortcuts n) queries old new
 Sends Asked old new status.WriteFault = SendsPart Asked old new
 Sends Asked old new status.NoMemory = (new ≡ old) ⊎ SendsPart Asked old new
 Sends Asked old new status.Usage = new ≡ old

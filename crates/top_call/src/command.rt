@@ -1,8 +1,8 @@
 // The top call.
 ghost use Rattle.std.specs.Prelude.{◌≡◌, ◌⊎◌, ◌++◌, ◌↔◌, ◌≢◌, ◌≤◌, ◌-◌, ◌<◌, ◌^◌, length, All, IsNone, IfSome};
 ghost use Rattle.move_model.specs.Check.{KeepsRules};
-ghost use Rattle.move_model.specs.Network.{IsNumbered};
 ghost use Rattle.move_model.specs.declared.refusal.FileKind.{FileKind};
+ghost use Rattle.network_file.specs.Compiled.{IsRight};
 ghost use Rattle.query_table.specs.Queries.{IsAt, IsQuery};
 ghost use Rattle.move_files.specs.Outside.{Rose, SendsPrefix};
 ghost use Rattle.feed_values.specs.Date.{IsDay};
@@ -10,6 +10,7 @@ ghost use Rattle.top_call.specs.Words.{told, plan_of};
 ghost use Rattle.top_call.specs.Reading.{OnlyReads, NeverFall};
 ghost use Rattle.top_call.specs.Input.{held, IsInput, InputAccepted};
 ghost use Rattle.top_call.specs.Rejected.{RejectsInput, ComesUnlessStopped, NoneRose, FitsInput};
+ghost use Rattle.top_call.specs.Answered.{SearchesFor, OpensFor};
 ghost use Rattle.top_call.specs.Status.{MissesFile, FailsFile, ComesUnsent, IsAnyInput, IsThisInput, Sends, line_of};
 ghost use Rattle.top_call.specs.declared.status.Status.{Status as Ending};
 
@@ -19,13 +20,39 @@ use crate::status::Status;
 use crate::words::{PlanWords, plan_words};
 use move_files::{Files, Sink, write_whole};
 use move_model::{Network, Queries};
-use plan_core::{AnswerStop, answer, compile};
+use plan_core::{AnswerStop, Compiled, answer, compile};
 use std::alloc::Global;
 use std::sync::ledger::Ledger;
 use steps::Steps;
 
+// Sends the answers of a compiled network to the queries.
+fn send_compiled<O: Sink, L: Ledger, M: Ledger>(
+    alloc: Global,
+    compiled: &Compiled,
+    queries: &Queries,
+    out: &mut O,
+    searches: &mut Steps<L>,
+    opens: &mut Steps<M>,
+) -> Status
+    requires right { IsRight compiled.now }
+    requires few { length queries.now ≤ 100000 }
+    requires queries { All (IsQuery compiled.now.network) queries.now × All IsAt queries.now }
+    ensures ends { (result ≡ Status.Done) ⊎ (result ≡ Status.WriteFault) ⊎ (result ≡ Status.NoMemory) }
+    ensures sent { O.tells → Sends (IsThisInput compiled.now.network queries.now) (O.sent out.old) (O.sent out.new) result }
+    ensures write_fault { result ≡ Status.WriteFault → Rose (O.faults out.old) (O.faults out.new) }
+    ensures counts { NeverFall O.Sink out.old out.new }
+    ensures searches { SearchesFor (IsThisInput compiled.now.network queries.now) searches.old searches.new }
+    ensures opens { OpensFor (IsThisInput compiled.now.network queries.now) opens.old opens.new }
+{
+    match answer(alloc, compiled, queries, out, searches, opens) {
+        Ok(()) => Status::Done,
+        Err(AnswerStop::WriteFault) => Status::WriteFault,
+        Err(AnswerStop::NoMemory) => Status::NoMemory,
+    }
+}
+
 // Sends the answers to the queries.
-#[tactic(auto, unfolding(crate::specs::Status::Sends, crate::specs::Status::ComesUnsent))]
+#[tactic(auto, unfolding(crate::specs::Status::Sends))]
 fn send_answers<O: Sink, L: Ledger, M: Ledger>(
     alloc: Global,
     network: Network,
@@ -35,22 +62,18 @@ fn send_answers<O: Sink, L: Ledger, M: Ledger>(
     opens: &mut Steps<M>,
 ) -> Status
     requires few { length queries.now ≤ 100000 }
-    requires rules { KeepsRules network × IsNumbered network }
+    requires rules { KeepsRules network }
     requires queries { All (IsQuery network) queries.now × All IsAt queries.now }
     ensures ends { (result ≡ Status.Done) ⊎ (result ≡ Status.WriteFault) ⊎ (result ≡ Status.NoMemory) }
     ensures sent { O.tells → Sends (IsThisInput network queries.now) (O.sent out.old) (O.sent out.new) result }
     ensures write_fault { result ≡ Status.WriteFault → Rose (O.faults out.old) (O.faults out.new) }
     ensures counts { NeverFall O.Sink out.old out.new }
-    ensures searches { searches.new ≡ searches.old }
-    ensures opens { opens.new ≡ opens.old }
+    ensures searches { SearchesFor (IsThisInput network queries.now) searches.old searches.new }
+    ensures opens { OpensFor (IsThisInput network queries.now) opens.old opens.new }
 {
-    let Ok(compiled) = compile(alloc, network) else {
-        return Status::NoMemory;
-    };
-    match answer(alloc, &compiled, queries, out, searches, opens) {
-        Ok(()) => Status::Done,
-        Err(AnswerStop::WriteFault) => Status::WriteFault,
-        Err(AnswerStop::NoMemory) => Status::NoMemory,
+    match compile(alloc, network) {
+        Ok(compiled) => send_compiled(alloc, &compiled, queries, out, searches, opens),
+        Err(_) => Status::NoMemory,
     }
 }
 
@@ -78,8 +101,9 @@ fn run_plan<F: Files, O: Sink, L: Ledger, M: Ledger>(
     ensures write_fault { result ≡ Status.WriteFault → Rose (O.faults out.old) (O.faults out.new) }
     ensures reads { OnlyReads F.Files files.old files.new }
     ensures counts { NeverFall O.Sink out.old out.new }
-    ensures searches { searches.new ≡ searches.old }
-    ensures opens { opens.new ≡ opens.old }
+    ensures searches { F.tells → SearchesFor (IsInput (told plan.now) (held (told plan.now) (F.holds files.old))) searches.old searches.new }
+    ensures opens { F.tells → OpensFor (IsInput (told plan.now) (held (told plan.now) (F.holds files.old))) opens.old opens.new }
+    ensures unsearched { ComesUnsent result → (searches.new ≡ searches.old) × (opens.new ≡ opens.old) }
 {
     match read_inputs(alloc, plan, files) {
         Ok((network, queries)) => send_answers(alloc, network, &queries, out, searches, opens),
@@ -111,8 +135,11 @@ fn run_command<F: Files, O: Sink, L: Ledger, M: Ledger>(
     ensures write_fault { result ≡ Status.WriteFault → Rose (O.faults out.old) (O.faults out.new) }
     ensures reads { OnlyReads F.Files files.old files.new }
     ensures counts { NeverFall O.Sink out.old out.new }
-    ensures searches { searches.new ≡ searches.old }
-    ensures opens { opens.new ≡ opens.old }
+    ensures searches { F.tells → IfSome (plan_of words.now) (λ plan.
+        SearchesFor (IsInput plan (held plan (F.holds files.old))) searches.old searches.new) }
+    ensures opens { F.tells → IfSome (plan_of words.now) (λ plan.
+        OpensFor (IsInput plan (held plan (F.holds files.old))) opens.old opens.new) }
+    ensures unsearched { ComesUnsent result → (searches.new ≡ searches.old) × (opens.new ≡ opens.old) }
 {
     match plan_words(words) {
         None => Status::Usage,
@@ -131,8 +158,8 @@ pub fn tell<E: Sink>(status: Status, err: &mut E)
     let _ = write_whole(err, line.bytes());
 }
 
-/// Runs the command that the words name, over files and sinks that are handed in. The counters count street
-/// searches and openings of routes; no call ticks them yet.
+/// Runs the command that the words name, over files and sinks that are handed in. `searches` counts searches in the streets
+/// that answer queries, `opens` counts routes that rounds open.
 pub fn run<F: Files, O: Sink, E: Sink, L: Ledger, M: Ledger>(
     alloc: Global,
     words: &[String],
@@ -143,8 +170,9 @@ pub fn run<F: Files, O: Sink, E: Sink, L: Ledger, M: Ledger>(
     opens: &mut Steps<M>,
 ) -> Status
     // On Done the rows of the answers to the queries of QUERIES over the network of the files were sent: for each query
-    // exactly its Pareto set over all journeys of the network, each pair with the legs of a journey that attains it. After a
-    // failed write, or want of memory, a part of such a text was sent; every other status comes before anything is sent.
+    // exactly its Pareto set over all journeys of the network, each pair with the legs of a journey that attains it, and whose
+    // transfers from one stop to another are shortcuts of the network. After a failed write, or want of memory, a part of such
+    // a text was sent; every other status comes before anything is sent.
     ensures printed { F.tells → O.tells → IfSome (plan_of words.now) (λ plan.
         Sends (IsInput plan (held plan (F.holds files.old))) (O.sent out.old) (O.sent out.new) result) }
 
@@ -182,8 +210,15 @@ pub fn run<F: Files, O: Sink, E: Sink, L: Ledger, M: Ledger>(
     // No file changes, no write to a file fails, and no count of the outside falls.
     ensures reads { OnlyReads F.Files files.old files.new }
     ensures counts { NeverFall O.Sink out.old out.new × NeverFall E.Sink err.old err.new }
-    ensures searches { searches.new ≡ searches.old }
-    ensures opens { opens.new ≡ opens.old }
+
+    // Streets are searched three times for each query that was begun, and at most once for each walk of the journeys of its
+    // Pareto set. Each route of the trips is opened at most once for each round of a query, and a query has as many rounds as
+    // its limit. Where nothing is sent because of the words or the files, nothing is searched and no route is opened.
+    ensures searches { F.tells → IfSome (plan_of words.now) (λ plan.
+        SearchesFor (IsInput plan (held plan (F.holds files.old))) searches.old searches.new) }
+    ensures opens { F.tells → IfSome (plan_of words.now) (λ plan.
+        OpensFor (IsInput plan (held plan (F.holds files.old))) opens.old opens.new) }
+    ensures unsearched { ComesUnsent result → (searches.new ≡ searches.old) × (opens.new ≡ opens.old) }
 {
     let status = run_command(alloc, words, files, out, searches, opens);
     tell(status, err);

@@ -54,8 +54,9 @@ pub fn run_program<R: Env + Alloc<A = Global>, F: Files, O: Sink, E: Sink, L: Le
     // No file changes, no write to a file fails, and no count of the outside falls.
     ensures reads { OnlyReads F.Files files.old files.new }
     ensures counts { NeverFall O.Sink out.old out.new × NeverFall E.Sink err.old err.new }
-    ensures searches { searches.new ≡ searches.old }
-    ensures opens { opens.new ≡ opens.old }
+
+    // Where nothing is sent because of the words or the files, nothing is searched and no route is opened.
+    ensures unsearched { ComesUnsent result → (searches.new ≡ searches.old) × (opens.new ≡ opens.old) }
 {
     match given_words(rt) {
         Ok(words) => run(rt.alloc(), &words, files, out, err, searches, opens),

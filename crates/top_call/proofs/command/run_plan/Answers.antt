@@ -2,6 +2,7 @@ use Rattle.top_call.proofs.CauseLemmas.{HasCause-usage, HasCause-write_fault, Ha
 use Rattle.top_call.specs.Words.{told}
 use Rattle.top_call.specs.Input.{held, IsInput}
 use Rattle.top_call.specs.Status.{IsThisInput, IsAnyInput}
+use Rattle.top_call.proofs.AnswerLemmas.{SearchesFor-weaker, OpensFor-weaker}
 use Rattle.top_call.proofs.RejectLemmas.{fits_stopped}
 use Rattle.top_call.proofs.command.run_plan.Goals as goal
 
@@ -38,3 +39,16 @@ returns-in-Ok-clause-printed g c = λ files_tell out_tells.
 
 pub returns-in-Ok-clause-unsent : goal.returns-in-Ok-clause-unsent
 returns-in-Ok-clause-unsent g c = λ is. absurd (not-unsent c.send_answers.result c.send_answers.ensures.ends is)
+
+pub returns-in-Ok-clause-searches : goal.returns-in-Ok-clause-searches
+returns-in-Ok-clause-searches g c = λ files_tell.
+    SearchesFor-weaker (IsThisInput c.in-Ok.network c.in-Ok.queries) (IsInput (told c.args.plan.now) (held (told c.args.plan.now) (g.F.Files.holds c.args.files.now))) _ _
+    (λ n queries is. rw (is.0, is.1) (c.in-Ok.ensures.input files_tell)) c.send_answers.ensures.searches
+
+pub returns-in-Ok-clause-opens : goal.returns-in-Ok-clause-opens
+returns-in-Ok-clause-opens g c = λ files_tell.
+    OpensFor-weaker (IsThisInput c.in-Ok.network c.in-Ok.queries) (IsInput (told c.args.plan.now) (held (told c.args.plan.now) (g.F.Files.holds c.args.files.now))) _ _
+    (λ n queries is. rw (is.0, is.1) (c.in-Ok.ensures.input files_tell)) c.send_answers.ensures.opens
+
+pub returns-in-Ok-clause-unsearched : goal.returns-in-Ok-clause-unsearched
+returns-in-Ok-clause-unsearched g c = λ is. absurd (not-unsent c.send_answers.result c.send_answers.ensures.ends is)

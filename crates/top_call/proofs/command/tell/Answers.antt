@@ -1,4 +1,3 @@
-use Rattle.std.proofs.Common.{◌∙◌}
 use Rattle.top_call.proofs.CauseLemmas.{prefix-sent}
 use Rattle.top_call.proofs.command.tell.Goals as goal
 

@@ -1,6 +1,6 @@
 use Rattle.std.proofs.lemmas.Result.{err_from_is_err_and}
 use Rattle.top_call.proofs.CauseLemmas.{HasCause-later}
-use Rattle.std.proofs.Common.{refl, rules, ap, Err}
+use Rattle.std.proofs.Common.{rules, ap, Err}
 use Rattle.top_call.specs.Words.{told}
 use Rattle.top_call.specs.Input.{held}
 use Rattle.top_call.proofs.RejectLemmas.{input_network, input_file, input_rule}

@@ -1,0 +1,4 @@
+pub mod PrintLaws
+pub mod SentLemmas
+pub mod SearchLemmas
+pub mod WeakerLaws

@@ -1,0 +1,10 @@
+use Rattle.std.proofs.Common.{arith}
+use Rattle.answer_rows.specs.Searched.AreSearchedBy.{none}
+use Rattle.answer_rows.proofs.SentLemmas.{nothing_printed}
+use Rattle.answer_rows.proofs.answers.answer.Goals as goal
+
+pub returns-in_default-clause-part : goal.returns-in_default-clause-part
+returns-in_default-clause-part g c = λ tells. nothing_printed c.args.compiled.now c.args.queries.now _
+
+pub returns-in_default-clause-searches : goal.returns-in_default-clause-searches
+returns-in_default-clause-searches g c = (0, none (omega arith))

@@ -1,0 +1,9 @@
+use Rattle.std.proofs.Common.{subst}
+use Rattle.move_model.specs.declared.network.Network.{Network}
+use Rattle.top_call.specs.Answered.{OpensFor}
+use Rattle.top_call.specs.Status.{IsThisInput}
+use Rattle.top_call.proofs.command.send_answers.Goals as goal
+
+pub returns-in-Ok-clause-opens : goal.returns-in-Ok-clause-opens
+returns-in-Ok-clause-opens g c =
+    subst (λ (n : Network). OpensFor (IsThisInput n c.args.queries.now) c.args.opens.now c.send_compiled.new.opens) c.in-Ok.ensures.network c.send_compiled.ensures.opens
