@@ -67,8 +67,14 @@ fn expect_second(
     for k in 1..limit + 1 {
         let best = rounds.best(k);
         let want = if is_earlier(best, least) { best } else { None };
-        assert!(rt; arrival_at(spans, second, k) == want, "{k} rides at {second}");
-        assert_eq!(rt; count_covering(spans, second, k), usize::from(want.is_some()));
+        assert!(rt;
+            arrival_at(spans, second, k) == want,
+            "{k} rides at {second}"
+        );
+        assert_eq!(rt;
+            count_covering(spans, second, k),
+            usize::from(want.is_some())
+        );
         if want.is_some() {
             least = want;
             pairs = pairs.wrapping_add(1);
