@@ -1,5 +1,5 @@
 -- The pairs of a start's needed candidates, by the least second rides.
-use Rattle.std.proofs.Common.{◌≡◌, ℕ, ◌+◌, ◌<◌, ◌≤◌, List, [], ◌∷◌, refl, sym, ap, subst, ◌∙◌, inl, inr, arith}
+use Rattle.std.proofs.Common.{◌≡◌, ℕ, ◌+◌, ◌<◌, ◌≤◌, ◌⊎◌, List, [], ◌∷◌, refl, sym, ap, subst, ◌∙◌, inl, inr, arith}
 use Rattle.std.proofs.lemmas.Bool.{cases_lt}
 use Rattle.move_model.specs.declared.network.Network.{Network}
 use Rattle.move_model.specs.declared.network.NodeNo.{NodeNo}
@@ -332,9 +332,10 @@ module _ (n : Network) (u : StopNo) (z : ℕ) where
           lengthen a b c xs ys e (inl l) = inl (omega arith)
           lengthen a b c xs ys e (inr h) = inr (omega (arith, h.0), inr (h.0, inr (refl, h.1)))
 
-      pub label_is : p.off2.arr < h → best v ≡ second_of p
-      label_is within =
-          elim (stands.enough v (second_of p) second_at_v within) [
+      -- where the label isn't greater
+      pub label_is : IsCovered n (node_of n u) z v p.off2.arr ⊎ ¬ (IsLess (second_entries (second_of p)) (second_entries (best v))) → p.off2.arr < never → best v ≡ second_of p
+      label_is enough within =
+          elim enough [
             | inl c ↦ absurd (none_covers c)
             | inr none ↦
                 let first : (best v).a2 ≤ p.off2.arr = not_less-first (best v).a2 p.off2.arr (rest_of (best v)) (rest_of (second_of p)) none in

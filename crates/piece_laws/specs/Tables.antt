@@ -3,6 +3,8 @@
 --     ReadyStands n q z h ready     the same of when the passenger is ready
 --     SecondStands n q z h best     the same of second rides, but for those that a journey with at most one ride covers
 --     OwnStands n us z own          the least arrivals of the rides from the stops themselves
+--     OwnFirstStands n us q z h first   each label is a first ride, and each ride from the stops themselves is on foot or no less
+--                                   than the label
 --     IsWalkClosed n q z h ..       each walk on from a first ride's label is in the label where it ends
 --     IsRideClosed n q z h ..       each ride on from a ready label is in the label where it is left
 --     IsRead n q z h .. v x y       the labels of a start say at v that the walk from x to y is needed
@@ -40,6 +42,10 @@ pub record SecondStands (n : Network) (q : NodeNo) (z h : ℕ) (best : StopNo �
 pub record OwnStands (n : Network) (us : List StopNo) (z : ℕ) (own : StopNo → ℕ) : Type 0 where
   pub real : (x : StopNo) → own x < never → IsOwn n us z x (own x)
   pub enough : (x : StopNo) (a : ℕ) → IsOwn n us z x a → own x ≤ a
+
+pub record OwnFirstStands (n : Network) (us : List StopNo) (q : NodeNo) (z h : ℕ) (first : StopNo → ℕ) : Type 0 where
+  pub real : (x : StopNo) → first x < never → HasFirst n q z x (first x)
+  pub enough : (x : StopNo) (a : ℕ) → IsOwn n us z x a → a < h → IsOnFoot n q z x a ⊎ (first x ≤ a)
 
 abbrev pub IsWalkClosed : Network → NodeNo → ℕ → ℕ → (StopNo → ℕ) → (StopNo → Ready) → Type 0
 IsWalkClosed n q z h first ready =

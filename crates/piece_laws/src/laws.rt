@@ -9,7 +9,7 @@ ghost use Rattle.move_model.specs.Shortcut.{Piece, IsStart, IsCandidate, IsBette
 ghost use Rattle.piece_laws.specs.declared.labels.Ready.{Ready};
 ghost use Rattle.piece_laws.specs.declared.labels.Second.{Second};
 ghost use Rattle.piece_laws.specs.Pieces.{IsOnFoot, IsCovered, HasFirst, HasReady, HasSecond, IsNeeded, IsOfStart};
-ghost use Rattle.piece_laws.specs.Tables.{never, FirstStands, ReadyStands, SecondStands, OwnStands, IsWalkClosed, IsRideClosed, IsRead};
+ghost use Rattle.piece_laws.specs.Tables.{never, FirstStands, ReadyStands, SecondStands, OwnStands, OwnFirstStands, IsWalkClosed, IsRideClosed, IsRead};
 
 /// What is true from a second is true from every earlier one: first rides, labels, walks and journeys with at most one ride.
 pub fn kept_earlier()
@@ -39,17 +39,20 @@ pub fn labels_compose()
 {}
 
 /// The labels of a start at some stops of one vertex tell exactly the walks that are needed for second rides left before
-/// h: a label is a needed candidate's where it is read, and each needed candidate's label is read.
+/// h: a label is a needed candidate's where it is read; and each needed candidate's label is read, with its arrival, even
+/// where of all first rides only those from the stops themselves are sure to be in the labels.
 pub fn read_exactly()
     ensures needed { (n : Network) (us : List StopNo) (q : NodeNo) (z h : ℕ) (own : StopNo → ℕ) (ready : StopNo → Ready) (best : StopNo → Second)
         → IsNetwork n → h ≤ never → ((u : StopNo) → Contains us u → node_of n u ≡ q)
         → OwnStands n us z own → ReadyStands n q z h ready → SecondStands n q z h best
         → (v x y : StopNo) → IsRead n q z h own ready best v x y → IsNeeded n us z x y }
-    ensures read { (n : Network) (us : List StopNo) (q : NodeNo) (z h : ℕ) (own : StopNo → ℕ) (ready : StopNo → Ready) (best : StopNo → Second)
+    ensures read { (n : Network) (us : List StopNo) (q : NodeNo) (z h : ℕ) (own first : StopNo → ℕ) (ready : StopNo → Ready) (best : StopNo → Second)
         → IsNetwork n → h ≤ never → ((u : StopNo) → Contains us u → node_of n u ≡ q)
-        → OwnStands n us z own → ReadyStands n q z h ready → SecondStands n q z h best
+        → OwnStands n us z own → OwnFirstStands n us q z h first
+        → ((y : StopNo) → (ready y).ready < never → HasReady n q z y (ready y)) → IsWalkClosed n q z h first ready
+        → ((v : StopNo) → (best v).a2 < never → HasSecond n q z v (best v)) → IsRideClosed n q z h ready best
         → (u v : StopNo) (piece : Piece) → Contains us u → IsCandidate n u z v piece → (IsBettered n u z v piece → ⊥) → piece.off2.arr < h
-        → IsRead n q z h own ready best v piece.off1.stop piece.on2.stop }
+        → IsRead n q z h own ready best v piece.off1.stop piece.on2.stop × ((best v).a2 ≡ piece.off2.arr) }
 {}
 
 /// The shortcuts are the needed walks of all starts. Those of several stops together are those of each; each belongs to a

@@ -27,8 +27,8 @@ held_on route foot z held first i (suc d) row closed within low =
     let next = closed.goes (i + d) (omega arith) in
     subst (λ (k : ℕ). slice_index held k ≤ row) (let e : i + d + 1 ≡ i + suc d = omega arith in e) (omega (arith, before, next))
 
-module _ (n : Network) (q : NodeNo) (z h : ℕ) (p : Parts) (k : Kept) (ok : IsNetwork n) (parts : ArePartsOf n q p) (low : h ≤ 1 + last_second)
-    (closed : IsClosed n p z h k) where
+module _ (n : Network) (q : NodeNo) (z g h : ℕ) (p : Parts) (k : Kept) (ok : IsNetwork n) (parts : ArePartsOf n q p) (low : h ≤ 1 + last_second)
+    (closed : IsClosed n p z g h k) where
   -- walking is no later
   pub walked_on_foot : (x : StopNo) (a : ℕ) → x.0 < length n.stops → a < h → IsWalked p.foot z x a → IsOnFoot n q z x a
   walked_on_foot x a within early w =
@@ -37,9 +37,9 @@ module _ (n : Network) (q : NodeNo) (z h : ℕ) (p : Parts) (k : Kept) (ok : IsN
   -- a row that can be boarded at a call is left at a later one
   row_left : (r i j row walk : ℕ) (route : Route) (on off : Place) → slice_get p.routes r ≡ Some route → slice_get route.places i ≡ Some on → slice_get route.places j ≡ Some off
       → IsTrue on.board → IsTrue off.alight → i < j → row < length route.trips → IsFootDistance n q on.stop walk
-      → z + walk + n.buffer ≤ slice_index (departures_of route i) row → z + walk < h → slice_index (arrivals_of route j) row < h
+      → z + walk + n.buffer ≤ slice_index (departures_of route i) row → z + walk < g → z + walk < h → slice_index (arrivals_of route j) row < h
       → IsOnFoot n q z off.stop (slice_index (arrivals_of route j) row) ⊎ (walked_at k off.stop ≤ slice_index (arrivals_of route j) row)
-  row_left r i j row walk route on off is at_on at_off may_on may_off before within foot in_time soon early =
+  row_left r i j row walk route on off is at_on at_off may_on may_off before within foot in_time there soon early =
       let whole = parts.whole r route is in
       let on_in = stop_within (length n.stops) route i on whole at_on in
       let off_in = stop_within (length n.stops) route j off whole at_off in
@@ -47,7 +47,7 @@ module _ (n : Network) (q : NodeNo) (z h : ℕ) (p : Parts) (k : Kept) (ok : IsN
       let same : foot_to p on.stop ≡ walk = (parts.on_foot on.stop on_in).enough walk foot (omega arith) in
       let rows = closed.rows.each r route is in
       let held = row_at k.first_rows r in
-      let first = closed.caught r i row route on is at_on may_on (omega arith) within (omega (arith, same)) (omega (arith, same, in_time)) in
+      let first = closed.caught r i row route on is at_on may_on (omega arith) within (omega (arith, there, same)) (omega (arith, same, in_time)) in
       let e : i + (j - (i + 1)) + 1 ≡ j = omega arith in
       let d : ℕ = i + (j - (i + 1)) in
       let last : slice_index held d ≤ row = held_on route p.foot z held k.first i (j - (i + 1)) row rows (omega (arith, e)) first in
@@ -60,8 +60,8 @@ module _ (n : Network) (q : NodeNo) (z h : ℕ) (p : Parts) (k : Kept) (ok : IsN
         | inr l ↦ inr (omega (arith, l, rise, closed.walked_low off.stop off_in (omega (arith, l, rise, early))))
       ]
 
-  first_enough : (x : StopNo) (a : ℕ) → HasFirst n q z x a → a < h → IsOnFoot n q z x a ⊎ (walked_at k x ≤ a)
-  first_enough x a f early =
+  pub first_enough : (x : StopNo) (a : ℕ) (f : HasFirst n q z x a) → z + f.walk < g → a < h → IsOnFoot n q z x a ⊎ (walked_at k x ≤ a)
+  first_enough x a f there early =
       let row = ride_row n p.routes f.ride f.on f.off parts.trips f.is_ride in
       let later = ride_later n ok f.ride f.on f.off f.is_ride in
       let b = row.boards in
@@ -72,11 +72,14 @@ module _ (n : Network) (q : NodeNo) (z h : ℕ) (p : Parts) (k : Kept) (ok : IsN
       (subst (λ (c : Call). IsTrue c.board) b.call_is f.is_ride.may_board) (subst (λ (c : Call). IsTrue c.alight) l.call_is f.is_ride.may_alight)
       f.is_ride.forward (slice_get_within row.route.trips row.p f.ride.trip row.is_trip)
       (subst (λ (c : Call). IsFootDistance n q c.stop f.walk) b.call_is f.to_it)
-      (omega (arith, f.in_time, dep)) (omega (arith, f.in_time, later, f.left_by, early)) (omega (arith, arr, f.left_by, early)) in
+      (omega (arith, f.in_time, dep)) there (omega (arith, f.in_time, later, f.left_by, early)) (omega (arith, arr, f.left_by, early)) in
       let at : l.place.stop ≡ x = sym (ap (λ (c : Call). c.stop) l.call_is) ∙ f.left_at in
       let by : slice_index (arrivals_of row.route f.ride.alight) row.p ≡ a = sym arr ∙ f.left_by in
       subst (λ (s : StopNo). IsOnFoot n q z s a ⊎ (walked_at k s ≤ a)) at
       (subst (λ (m : ℕ). IsOnFoot n q z l.place.stop m ⊎ (walked_at k l.place.stop ≤ m)) by done)
 
-  pub first_table : IsSound n q z p k → FirstStands n q z h (walked_at k)
-  first_table sound = record { real = sound.walked; enough = first_enough }
+  pub first_table : h ≤ g → IsSound n q z p k → FirstStands n q z h (walked_at k)
+  first_table far sound = record {
+    real = sound.walked;
+    enough = λ x a f early. first_enough x a f (omega (arith, far, early, f.in_time, f.left_by, ride_later n ok f.ride f.on f.off f.is_ride)) early;
+  }

@@ -1,12 +1,12 @@
 -- The label with which a stop is boarded.
-use Rattle.std.proofs.Common.{◌≡◌, ℕ, ◌+◌, ◌-◌, ◌<◌, ◌≤◌, ◌⊎◌, inl, inr, List, [], ◌∷◌, length, refl, sym, ap, subst, ◌∙◌, arith}
+use Rattle.std.proofs.Common.{◌≡◌, ℕ, ◌-◌, ◌<◌, ◌≤◌, inl, inr, [], ◌∷◌, length, sym, ap, subst, ◌∙◌, arith}
 use Rattle.std.specs.Prelude.{slice_index}
 use Rattle.move_model.specs.declared.network.Network.{Network}
 use Rattle.move_model.specs.declared.network.NodeNo.{NodeNo}
 use Rattle.move_model.specs.declared.network.StopNo.{StopNo}
 use Rattle.move_model.specs.Streets.{IsVertex}
-use Rattle.move_model.specs.Network.{IsNetwork, streets, node_of, IsStopDistance}
-use Rattle.move_model.specs.Shortcut.{IsLess, entry_of}
+use Rattle.move_model.specs.Network.{IsNetwork, streets, node_of}
+use Rattle.move_model.specs.Shortcut.{IsLess}
 use Rattle.pareto_laws.proofs.Distances.{distance_self}
 use Rattle.pareto_laws.proofs.Exchange.{entry_of_same, entry_of_other}
 use Rattle.piece_laws.specs.declared.labels.Ready.{Ready}

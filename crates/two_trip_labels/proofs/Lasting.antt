@@ -1,5 +1,5 @@
 -- What is kept from a second serves for every earlier one.
-use Rattle.std.proofs.Common.{◌≡◌, ℕ, ◌+◌, ◌<◌, ◌≤◌, ◌⊎◌, inl, inr, List, arith}
+use Rattle.std.proofs.Common.{ℕ, ◌≤◌, inl, inr, List, arith}
 use Rattle.move_model.specs.declared.network.Network.{Network}
 use Rattle.move_model.specs.declared.network.NodeNo.{NodeNo}
 use Rattle.move_model.specs.declared.network.StopNo.{StopNo}
@@ -29,8 +29,8 @@ second_closed route foot z z' places ready held best le c = record {
   leaves = λ k off trip at may is. elim (c.leaves k off trip at may is) [ inl w ↦ inl (cut_earlier foot z z' places ready off.stop _ le w) | inr l ↦ inr l ];
 }
 
-pub closed_earlier : (n : Network) (z z' h : ℕ) (p : Parts) (k : Kept) → z' ≤ z → IsClosed n p z h k → IsClosed n p z' 0 k
-closed_earlier n z z' h p k le c = record {
+pub closed_earlier : (n : Network) (z z' g h : ℕ) (p : Parts) (k : Kept) → z' ≤ z → IsClosed n p z g h k → IsClosed n p z' 0 0 k
+closed_earlier n z z' g h p k le c = record {
   rows = record { each = λ r route is. first_closed route p.foot z z' _ k.first le (c.rows.each r route is) };
   caught = λ r i row route on is at may more within early late. absurd (omega (arith, early));
   first_low = c.first_low;
@@ -40,6 +40,19 @@ closed_earlier n z z' h p k le c = record {
   place_low = λ y within early. absurd (omega (arith, early));
   ridden = λ r i row route on is at may more within late. elim (c.ridden r i row route on is at may more within late) [ inl w ↦ inl (omega (arith, w)) | inr l ↦ inr l ];
   held_rows = record { each = λ r route is. second_closed route p.foot z z' p.places k.ready _ k.best le (c.held_rows.each r route is) };
+}
+
+pub closed_sooner : (n : Network) (z g h h' : ℕ) (p : Parts) (k : Kept) → h' ≤ h → IsClosed n p z g h k → IsClosed n p z g h' k
+closed_sooner n z g h h' p k le c = record {
+  rows = c.rows;
+  caught = c.caught;
+  first_low = c.first_low;
+  walked_low = λ x within early. c.walked_low x within (omega (arith, le, early));
+  walks = c.walks;
+  own_low = λ y within early. c.own_low y within (omega (arith, le, early));
+  place_low = λ y within early. c.place_low y within (omega (arith, le, early));
+  ridden = c.ridden;
+  held_rows = c.held_rows;
 }
 
 pub sound_earlier : (n : Network) (q : NodeNo) (z z' : ℕ) (p : Parts) (k : Kept) → z' ≤ z → IsSound n q z p k → IsSound n q z' p k

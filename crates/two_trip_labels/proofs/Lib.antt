@@ -7,5 +7,6 @@ pub mod FirstTable
 pub mod ReadyTable
 pub mod SecondTable
 pub mod Lasting
+pub mod OwnTable
 pub mod LabelLemmas
 pub mod FreshLemmas

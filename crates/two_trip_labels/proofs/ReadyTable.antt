@@ -29,9 +29,9 @@ stop_exists n x is = elim (cases_lt x.0 (length n.stops)) [ inl l ↦ l | inr g 
     none : length n.stops ≤ x.0 → (node_of n x).0 ≡ 0
     none g = ap (λ (o : Option Stop). (node_of_stop o).0) (slice_get_past n.stops x.0 g)
 
-module _ (n : Network) (q : NodeNo) (z h : ℕ) (p : Parts) (k : Kept) (ok : IsNetwork n) (parts : ArePartsOf n q p) (low : h ≤ 1 + last_second)
-    (closed : IsClosed n p z h k) where
-  walk_closed : IsWalkClosed n q z h (walked_at k) (boarded_at k)
+module _ (n : Network) (q : NodeNo) (z g h : ℕ) (p : Parts) (k : Kept) (ok : IsNetwork n) (parts : ArePartsOf n q p) (low : h ≤ 1 + last_second)
+    (closed : IsClosed n p z g h k) where
+  pub walk_closed : IsWalkClosed n q z h (walked_at k) (boarded_at k)
   walk_closed x y w d soon =
       let x_at = IsWalk-begins (streets n) ok.streets_join d.attained.1 in
       let x_in = stop_exists n x x_at in
@@ -64,7 +64,7 @@ module _ (n : Network) (q : NodeNo) (z h : ℕ) (p : Parts) (k : Kept) (ok : IsN
           let m : ℕ = slice_index (p.row (place_of p x)) (place_of p y) in
           let same : m ≡ w = (parts.between x y x_in y_in).enough w d (omega arith) in
           elim (closed.walks x y x_in y_in (omega (arith, same))) [
-            | inl f ↦ inl (walked_on_foot n q z h p k ok parts low closed y (walked_at k x + w) y_in soon (omega (arith, f, same, parts.by_place y y_in)))
+            | inl f ↦ inl (walked_on_foot n q z g h p k ok parts low closed y (walked_at k x + w) y_in soon (omega (arith, f, same, parts.by_place y y_in)))
             | inr l ↦
                 let first : (place_label p k y).ready ≤ walked_at k x + m = ready_first (place_label p k y) (walked_label (p.row (place_of p x)) (walked_at k x) (1 + x.0) (place_of p y)) l in
                 let down = closed.place_low y y_in (omega (arith, same)) in
@@ -73,5 +73,5 @@ module _ (n : Network) (q : NodeNo) (z h : ℕ) (p : Parts) (k : Kept) (ok : IsN
                 inr (subst (λ (l : List ℕ). ¬ (IsLess l (ready_entries (boarded_at k y)))) (λ i. (walked_at k x + same i) ∷ walked_at k x ∷ sym c_is i ∷ []) less)
           ]
 
-  pub ready_table : IsSound n q z p k → ReadyStands n q z h (boarded_at k)
-  ready_table sound = ready_stands n ok q z h (walked_at k) (boarded_at k) (first_table n q z h p k ok parts low closed sound) sound.boarded walk_closed
+  pub ready_table : h ≤ g → IsSound n q z p k → ReadyStands n q z h (boarded_at k)
+  ready_table far sound = ready_stands n ok q z h (walked_at k) (boarded_at k) (first_table n q z g h p k ok parts low closed far sound) sound.boarded walk_closed

@@ -51,12 +51,12 @@ same_row a a' t t' r r' xs ys le g k none (inl h) = omega arith
 same_row a a' t t' r r' xs ys le g k none (inr (e, inl h)) = omega arith
 same_row a a' t t' r r' xs ys le g k none (inr (e, inr (f, h))) = none (inr (g, h))
 
-module _ (n : Network) (q : NodeNo) (z h : ℕ) (p : Parts) (k : Kept) (ok : IsNetwork n) (parts : ArePartsOf n q p) (low : h ≤ 1 + last_second)
-    (closed : IsClosed n p z h k) (sound : IsSound n q z p k) where
+module _ (n : Network) (q : NodeNo) (z g h : ℕ) (p : Parts) (k : Kept) (ok : IsNetwork n) (parts : ArePartsOf n q p) (low : h ≤ 1 + last_second)
+    (closed : IsClosed n p z g h k) (sound : IsSound n q z p k) where
   -- what is cut is covered
   cut_covered : (x : StopNo) (a : ℕ) → x.0 < length n.stops → a < h → IsCut p.foot z p.places k.ready x a → IsCovered n q z x a
   cut_covered x a within early (inl w) =
-      let f = walked_on_foot n q z h p k ok parts low closed x a within early w in
+      let f = walked_on_foot n q z g h p k ok parts low closed x a within early w in
       covered_by_walk n q z x f.seconds a f.foot f.no_later
   cut_covered x a within early (inr l) =
       let r = sound.ready x within (omega arith) in
@@ -86,7 +86,7 @@ module _ (n : Network) (q : NodeNo) (z h : ℕ) (p : Parts) (k : Kept) (ok : IsN
       let b : Ready = boarded_at k on.stop in
       let a : ℕ = slice_index (arrivals_of route j) row in
       elim (closed.ridden r i row route on is at_on may_on (omega arith) within in_time) [
-        | inl w ↦ inl (walked_on_foot n q z h p k ok parts low closed on.stop b.ready on_in (omega arith) w)
+        | inl w ↦ inl (walked_on_foot n q z g h p k ok parts low closed on.stop b.ready on_in (omega arith) w)
         | inr start ↦
             let e : i + (j - (i + 1)) + 1 ≡ j = omega arith in
             let d : ℕ = i + (j - (i + 1)) in
@@ -118,7 +118,7 @@ module _ (n : Network) (q : NodeNo) (z h : ℕ) (p : Parts) (k : Kept) (ok : IsN
       first_low : (x y : ℕ) (xs ys : List ℕ) → ¬ (IsLess (x ∷ xs) (y ∷ ys)) → y ≤ x
       first_low x y xs ys none = elim (cases_lt x y) [ inl l ↦ absurd (none (inl l)) | inr g ↦ g ]
 
-  ride_closed : IsRideClosed n q z h (boarded_at k) (best_at k)
+  pub ride_closed : IsRideClosed n q z h (boarded_at k) (best_at k)
   ride_closed ride on off is in_time soon =
       let row = ride_row n p.routes ride on off parts.trips is in
       let later = ride_later n ok ride on off is in
@@ -140,5 +140,5 @@ module _ (n : Network) (q : NodeNo) (z h : ℕ) (p : Parts) (k : Kept) (ok : IsN
         | inr r ↦ r
       ]
 
-  pub second_table : SecondStands n q z h (best_at k)
-  second_table = second_stands n ok q z h (boarded_at k) (best_at k) (ready_table n q z h p k ok parts low closed sound) sound.best ride_closed
+  pub second_table : h ≤ g → SecondStands n q z h (best_at k)
+  second_table far = second_stands n ok q z h (boarded_at k) (best_at k) (ready_table n q z g h p k ok parts low closed far sound) sound.best ride_closed

@@ -4,7 +4,8 @@
 --     ArePartsOf n q p            they are those of the network, for a passenger who sets out from q
 --     Kept                        what is kept from start to start
 --     IsLabel first there y l     l is the lesser of the label of y's place and of the label of a ride left at y itself
---     IsClosed n p z h k          a fact of the numbers: nothing before h is left to be boarded, ridden or walked
+--     IsClosed n p z g h k        a fact of the numbers: at stops that are walked to before g nothing is left to be boarded, and
+--                                 nothing before h is left to be walked or ridden
 --     IsSound n q z p k           what the labels stand for
 use Rattle.std.specs.Prelude.{◌≡◌, ℕ, ◌+◌, ◌-◌, ◌<◌, ◌≤◌, ◌⊎◌, IsTrue, List, length, slice_get, slice_index, slice_index_or, Some}
 use Rattle.move_model.specs.declared.network.Network.{Network}
@@ -95,10 +96,10 @@ pub record IsLabel (first : List ℕ) (there : Ready) (y : StopNo) (l : Ready) :
 abbrev pub place_label : Parts → Kept → StopNo → Ready
 place_label p k y = ready_at k.ready (place_of p y)
 
-pub record IsClosed (n : Network) (p : Parts) (z h : ℕ) (k : Kept) : Type 0 where
+pub record IsClosed (n : Network) (p : Parts) (z g h : ℕ) (k : Kept) : Type 0 where
   pub rows : AllFirstClosed p.routes p.foot z k.first_rows k.first
   pub caught : (r i row : ℕ) (route : Route) (on : Place) → slice_get p.routes r ≡ Some route → slice_get route.places i ≡ Some on → IsTrue on.board
-      → i + 1 < length route.places → row < length route.trips → z + foot_to p on.stop < h
+      → i + 1 < length route.places → row < length route.trips → z + foot_to p on.stop < g
       → z + foot_to p on.stop + n.buffer ≤ slice_index (departures_of route i) row → slice_index (row_at k.first_rows r) i ≤ row
   pub first_low : (x : StopNo) → x.0 < length n.stops → slice_index k.first x.0 ≤ walked_at k x
   pub walked_low : (x : StopNo) → x.0 < length n.stops → slice_index k.first x.0 < h → walked_at k x ≤ slice_index k.first x.0

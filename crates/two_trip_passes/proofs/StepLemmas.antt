@@ -48,19 +48,19 @@ second_closed routes foot z places ready ready' held best falls c = record { eac
     }
 
 module _ (n : Network) (q : NodeNo) (z : ℕ) (routes : List Route) (foot foot_row : List ℕ) (rows : Rows) where
-  pub closed_again : (h : ℕ) (k : Kept) (first_rows : List (List ℕ)) (first walked : List ℕ) (ready boarded : List Ready) (held : List (List Held)) (best : List Second)
+  pub closed_again : (g h : ℕ) (k : Kept) (first_rows : List (List ℕ)) (first walked : List ℕ) (ready boarded : List Ready) (held : List (List Held)) (best : List Second)
       → ArePartsOf n q (parts_of routes foot foot_row rows) → AreRowsOf n rows → length first ≡ length n.stops
       → FirstGoes routes foot z k.first_rows first_rows k.first first
-      → ((x : ℕ) → x < length n.stops → IsStopBoarded routes (z + slice_index foot x + n.buffer) first_rows x)
+      → ((x : ℕ) → x < length n.stops → z + slice_index foot x < g → IsStopBoarded routes (z + slice_index foot x + n.buffer) first_rows x)
       → WalkGoes rows foot_row z first k.walked walked k.ready ready → ((x : ℕ) → x < length first → last_walked walked x ≤ slice_index first x)
       → RideGoes routes foot z rows.places n.buffer first ready k.boarded boarded k.held held k.best best
       → ((y : StopNo) → y.0 < length n.stops → IsBoardedLow rows.places first ready (ready_at boarded y.0) y)
-      → IsClosed n (parts_of routes foot foot_row rows) z 0 k
-      → IsClosed n (parts_of routes foot foot_row rows) z h (with_rides (with_walks k first_rows first walked ready) boarded held best)
-  closed_again h k first_rows first walked ready boarded held best parts are many firsts caught walks low rides boarded_low c = record {
+      → IsClosed n (parts_of routes foot foot_row rows) z 0 0 k
+      → IsClosed n (parts_of routes foot foot_row rows) z g h (with_rides (with_walks k first_rows first walked ready) boarded held best)
+  closed_again g h k first_rows first walked ready boarded held best parts are many firsts caught walks low rides boarded_low c = record {
     rows = firsts.closed c.rows;
     caught = λ r i row route on is at may more within early late.
-        (caught on.stop.0 (stop_within (length n.stops) route i on (parts.whole r route is) at)).each r i row route on is at refl may more within late;
+        (caught on.stop.0 (stop_within (length n.stops) route i on (parts.whole r route is) at) early).each r i row route on is at refl may more within late;
     first_low = λ x within. elim (walks.each x.0) [
       | inl same ↦ omega (arith, same, c.first_low x within, firsts.first_falls.each x.0)
       | inr new ↦ omega (arith, new.1)

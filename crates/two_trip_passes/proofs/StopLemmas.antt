@@ -39,11 +39,12 @@ boarded_falls routes wanted rows rows' x falls b = record {
   each = λ r i row route on is at here may more within late. omega (arith, (falls.each r).each i, b.each r i row route on is at here may more within late);
 }
 
-pub boarded_more : (routes : List Route) (wanted : ℕ → ℕ) (rows rows' : List (List ℕ)) (m : ℕ) → RowsFall rows rows' → ((x : ℕ) → x < m → IsStopBoarded routes (wanted x) rows x)
-    → IsStopBoarded routes (wanted m) rows' m → (x : ℕ) → x < m + 1 → IsStopBoarded routes (wanted x) rows' x
-boarded_more routes wanted rows rows' m falls was this x low = elim (cases_lt x m) [
-  | inl l ↦ boarded_falls routes (wanted x) rows rows' x falls (was x l)
-  | inr g ↦ subst (λ (y : ℕ). IsStopBoarded routes (wanted y) rows' y) (let e : m ≡ x = omega arith in e) this
+pub boarded_more : (routes : List Route) (near : ℕ → Type 0) (wanted : ℕ → ℕ) (rows rows' : List (List ℕ)) (m : ℕ) → RowsFall rows rows'
+    → ((x : ℕ) → x < m → near x → IsStopBoarded routes (wanted x) rows x) → (near m → IsStopBoarded routes (wanted m) rows' m)
+    → (x : ℕ) → x < m + 1 → near x → IsStopBoarded routes (wanted x) rows' x
+boarded_more routes near wanted rows rows' m falls was this x low is = elim (cases_lt x m) [
+  | inl l ↦ boarded_falls routes (wanted x) rows rows' x falls (was x l is)
+  | inr g ↦ subst (λ (y : ℕ). near y → IsStopBoarded routes (wanted y) rows' y) (let e : m ≡ x = omega arith in e) this is
 ]
 
 -- a row that departs after the walk may be boarded

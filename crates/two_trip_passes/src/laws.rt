@@ -23,7 +23,7 @@ ghost use Rattle.two_trip_passes.specs.Stops.{IsStopBoarded};
 ghost use Rattle.two_trip_passes.specs.Walks.{WalkGoes, last_walked};
 ghost use Rattle.two_trip_passes.specs.Rides.{RideGoes, IsBoardedLow, AreReal};
 ghost use Rattle.two_trip_passes.specs.Own.{IsOwnOfAny, OwnFrom, own_at};
-ghost use Rattle.two_trip_passes.specs.Read.{HasRead};
+ghost use Rattle.two_trip_passes.specs.Read.{IsReadOf, HasRead};
 ghost use Rattle.two_trip_passes.specs.Step.{parts_of, source_of, AreRowsOf, with_walks, with_rides, IsReal};
 
 /// The least arrivals of the rides that depart at a second and the buffer from some stops are those of their own rides.
@@ -35,18 +35,19 @@ pub fn own_stands()
         → OwnStands n us z (own_at own) }
 {}
 
-/// Boarding first rides from all stops, walking on and boarding second rides closes the labels again.
+/// Boarding first rides from all stops that are walked to before a second, walking on and boarding second rides closes the
+/// labels again.
 pub fn passes_close()
-    ensures { (n : Network) (q : NodeNo) (z h : ℕ) (routes : List Route) (foot foot_row : List ℕ) (rows : Rows) (k : Kept)
+    ensures { (n : Network) (q : NodeNo) (z g h : ℕ) (routes : List Route) (foot foot_row : List ℕ) (rows : Rows) (k : Kept)
         (first_rows : List (List ℕ)) (first walked : List ℕ) (ready boarded : List Ready) (held : List (List Held)) (best : List Second)
         → ArePartsOf n q (parts_of routes foot foot_row rows) → AreRowsOf n rows → length first ≡ length n.stops
         → FirstGoes routes foot z k.first_rows first_rows k.first first
-        → ((x : ℕ) → x < length n.stops → IsStopBoarded routes (z + slice_index foot x + n.buffer) first_rows x)
+        → ((x : ℕ) → x < length n.stops → z + slice_index foot x < g → IsStopBoarded routes (z + slice_index foot x + n.buffer) first_rows x)
         → WalkGoes rows foot_row z first k.walked walked k.ready ready → ((x : ℕ) → x < length first → last_walked walked x ≤ slice_index first x)
         → RideGoes routes foot z rows.places n.buffer first ready k.boarded boarded k.held held k.best best
         → ((y : StopNo) → y.0 < length n.stops → IsBoardedLow rows.places first ready (ready_at boarded y.0) y)
-        → IsClosed n (parts_of routes foot foot_row rows) z 0 k
-        → IsClosed n (parts_of routes foot foot_row rows) z h (with_rides (with_walks k first_rows first walked ready) boarded held best) }
+        → IsClosed n (parts_of routes foot foot_row rows) z 0 0 k
+        → IsClosed n (parts_of routes foot foot_row rows) z g h (with_rides (with_walks k first_rows first walked ready) boarded held best) }
 {}
 
 /// Boarding first rides and walking on leaves what is real, and so are the labels with which stops may be boarded then.
@@ -77,11 +78,18 @@ pub fn real_last()
         → z' ≤ z → IsReal n q z (parts_of routes foot foot_row rows) k → IsReal n q z' (parts_of routes foot foot_row rows) k }
 {}
 
-/// The pairs that the labels of a start say are needed are the needed walks, where all rides are left within a day.
+/// Where all rides are left within a day, and first rides were boarded at all stops that are walked to before a second, a pair
+/// that the labels of a start say is needed of a second ride left before that second is a needed walk; and they say so of each
+/// needed walk, at the stop where its candidate ends, as soon as the start's own stops were boarded.
 pub fn labels_read()
-    ensures { (n : Network) (us : List StopNo) (q : NodeNo) (z : ℕ) (routes : List Route) (foot foot_row : List ℕ) (rows : Rows) (own : List ℕ) (k : Kept) → IsNetwork n
+    ensures needed { (n : Network) (us : List StopNo) (q : NodeNo) (z g : ℕ) (routes : List Route) (foot foot_row : List ℕ) (rows : Rows) (own : List ℕ) (k : Kept) → IsNetwork n
         → ((trip : TripNo) (i : ℕ) (call : Call) → HasCall n trip i call → call.arr ≤ last_second)
         → ArePartsOf n q (parts_of routes foot foot_row rows) → AreRowsOf n rows → ((u : StopNo) → Contains us u → node_of n u ≡ q) → OwnStands n us z (own_at own)
-        → IsClosed n (parts_of routes foot foot_row rows) z (1 + last_second) k → IsSound n q z (parts_of routes foot foot_row rows) k
-        → (x y : StopNo) → HasRead rows foot z own k.boarded k.best (length rows.places) x y ↔ IsNeeded n us z x y }
+        → IsClosed n (parts_of routes foot foot_row rows) z g (1 + last_second) k → IsSound n q z (parts_of routes foot foot_row rows) k
+        → (x y : StopNo) → HasRead rows foot z g own k.boarded k.best (length rows.places) x y → IsNeeded n us z x y }
+    ensures read { (n : Network) (us : List StopNo) (q : NodeNo) (z g : ℕ) (routes : List Route) (foot foot_row : List ℕ) (rows : Rows) (own : List ℕ) (k : Kept) → IsNetwork n
+        → ((trip : TripNo) (i : ℕ) (call : Call) → HasCall n trip i call → call.arr ≤ last_second)
+        → ArePartsOf n q (parts_of routes foot foot_row rows) → AreRowsOf n rows → ((u : StopNo) → Contains us u → node_of n u ≡ q) → OwnStands n us z (own_at own)
+        → IsClosed n (parts_of routes foot foot_row rows) z g (1 + last_second) k → z < g → IsSound n q z (parts_of routes foot foot_row rows) k
+        → (x y : StopNo) (d : IsNeeded n us z x y) → IsReadOf rows foot z own k.boarded k.best d.v d.piece.off2.arr x y }
 {}

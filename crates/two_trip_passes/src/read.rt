@@ -1,8 +1,9 @@
 // Reading needed walks off the labels.
 ghost use Rattle.std.specs.Prelude.{◌≡◌, ◌<◌, ◌≤◌, ◌+◌, ◌-◌, ◌⊎◌, ◌↔◌, ℕ, IsTrue, Contains, length, vec_len, vec_capacity};
 ghost use Rattle.move_model.specs.declared.network.StopNo.{StopNo};
+ghost use Rattle.two_trip_rides.specs.Second.{second_at};
 ghost use Rattle.two_trip_passes.specs.Own.{own_at};
-ghost use Rattle.two_trip_passes.specs.Read.{Pair, key_pair, IsFound, IsNear, HasNear, IsReadAt, IsOwnKey, HasRead};
+ghost use Rattle.two_trip_passes.specs.Read.{Pair, key_pair, arrival, IsFound, IsNear, HasNear, IsReadAt, IsReadBefore, IsReadUntil, IsReadLast, IsOwnKey, HasRead};
 
 use move_model::StopNo;
 use piece_laws::{Ready, Second};
@@ -110,11 +111,96 @@ fn is_known(known: &[(StopNo, StopNo)], pair: (StopNo, StopNo)) -> bool
     place < known.len() && known[place].0.0 == pair.0.0 && known[place].1.0 == pair.1.0
 }
 
-// Adds the pair that the labels say at a stop, if there is one that isn't known; there is room for it.
+// Whether the labels say at a stop that a walk is needed, and one that isn't known.
+fn is_read(
+    rows: &StopRows,
+    stop: u32,
+    second: u32,
+    foot: &[u32],
+    own: &[u32],
+    boarded: &[Ready],
+    best: &[Second],
+    known: &[(StopNo, StopNo)],
+) -> bool
+    requires stop { stop < length rows.now.places }
+    requires foot { length foot.now ≡ length rows.now.places }
+    requires boarded { length boarded.now ≡ length rows.now.places }
+    requires best { length best.now ≡ length rows.now.places }
+    ensures sound { IsTrue result → IsReadAt rows.now foot.now second own.now boarded.now best.now (record { 0 = stop }) (key_pair (second_at best.now stop)).0 (key_pair (second_at best.now stop)).1 }
+    ensures whole { (q : Pair) → IsReadAt rows.now foot.now second own.now boarded.now best.now (record { 0 = stop }) q.0 q.1 → Contains known.now q ⊎ IsTrue result }
+{
+    let key = best[stop as usize];
+    if !is_own(key, stop, second, foot, own, boarded) {
+        return false;
+    }
+    if is_known(known, pair_of(key)) {
+        return false;
+    }
+    !has_near(rows, rows.place(StopNo(stop)), key.a2, best)
+}
+
+// A second, or a later one before which the second ride is left of which the labels say at a stop that a walk is needed, if that
+// isn't known.
+fn until_stop(
+    rows: &StopRows,
+    stop: u32,
+    second: u32,
+    foot: &[u32],
+    own: &[u32],
+    boarded: &[Ready],
+    best: &[Second],
+    known: &[(StopNo, StopNo)],
+    until: u64,
+) -> u64
+    requires stop { stop < length rows.now.places }
+    requires foot { length foot.now ≡ length rows.now.places }
+    requires boarded { length boarded.now ≡ length rows.now.places }
+    requires best { length best.now ≡ length rows.now.places }
+    ensures later { until ≤ result }
+    ensures until { IsReadUntil rows.now foot.now second own.now boarded.now best.now known.now (record { 0 = stop }) result }
+    ensures last { (result ≡ until) ⊎ IsReadLast rows.now foot.now second own.now boarded.now best.now (stop + 1) result }
+{
+    let after = best[stop as usize].a2 as u64 + 1;
+    if after <= until {
+        return until;
+    }
+    if is_read(rows, stop, second, foot, own, boarded, best, known) {
+        return after;
+    }
+    until
+}
+
+/// The second after the last one at which a second ride is left of which the labels say that a walk is needed, and one that
+/// isn't known; or 0, where there is none.
+pub fn read_until(
+    rows: &StopRows,
+    second: u32,
+    foot: &[u32],
+    own: &[u32],
+    boarded: &[Ready],
+    best: &[Second],
+    known: &[(StopNo, StopNo)],
+) -> u64
+    requires foot { length foot.now ≡ length rows.now.places }
+    requires boarded { length boarded.now ≡ length rows.now.places }
+    requires best { length best.now ≡ length rows.now.places }
+    ensures until { (v : StopNo) → v.0 < length rows.now.places → IsReadUntil rows.now foot.now second own.now boarded.now best.now known.now v result }
+    ensures last { (result ≡ 0) ⊎ IsReadLast rows.now foot.now second own.now boarded.now best.now (length rows.now.places) result }
+{
+    let mut until = 0;
+    for stop in 0..rows.stops() {
+        until = until_stop(rows, stop, second, foot, own, boarded, best, known, until);
+    }
+    until
+}
+
+// Adds the pair that the labels say at a stop of a second ride that is left before a second, if it isn't known; there is room
+// for it.
 fn read_stop(
     rows: &StopRows,
     stop: u32,
     second: u32,
+    before: u64,
     foot: &[u32],
     own: &[u32],
     boarded: &[Ready],
@@ -127,28 +213,25 @@ fn read_stop(
     requires boarded { length boarded.now ≡ length rows.now.places }
     requires best { length best.now ≡ length rows.now.places }
     requires room { vec_len pairs.old < vec_capacity pairs.old }
-    ensures pairs { (q : Pair) → IsFound known.now pairs.new.items q ↔ (IsFound known.now pairs.old.items q ⊎ IsReadAt rows.now foot.now second own.now boarded.now best.now (record { 0 = stop }) q.0 q.1) }
+    ensures pairs { (q : Pair) → IsFound known.now pairs.new.items q ↔ (IsFound known.now pairs.old.items q ⊎ IsReadBefore rows.now foot.now second before own.now boarded.now best.now (record { 0 = stop }) q.0 q.1) }
     ensures capacity { vec_capacity pairs.old ≤ vec_capacity pairs.new }
     ensures len { vec_len pairs.new ≤ vec_len pairs.old + 1 }
 {
     let key = best[stop as usize];
-    if !is_own(key, stop, second, foot, own, boarded) {
+    if key.a2 as u64 >= before {
         return;
     }
-    let pair = pair_of(key);
-    if is_known(known, pair) {
-        return;
-    }
-    if !has_near(rows, rows.place(StopNo(stop)), key.a2, best) {
-        pairs.push_reserved(pair);
+    if is_read(rows, stop, second, foot, own, boarded, best, known) {
+        pairs.push_reserved(pair_of(key));
     }
 }
 
-/// Adds the pairs that the labels say at all stops, but for some that are known, in rising order; there is room for one of
-/// each.
+/// Adds the pairs that the labels say at all stops of second rides that are left before a second, but for some that are known,
+/// in rising order; there is room for one of each.
 pub fn read_all(
     rows: &StopRows,
     second: u32,
+    before: u64,
     foot: &[u32],
     own: &[u32],
     boarded: &[Ready],
@@ -160,10 +243,12 @@ pub fn read_all(
     requires boarded { length boarded.now ≡ length rows.now.places }
     requires best { length best.now ≡ length rows.now.places }
     requires room { vec_len pairs.old + length rows.now.places ≤ vec_capacity pairs.old }
-    ensures pairs { (q : Pair) → IsFound known.now pairs.new.items q ↔ (IsFound known.now pairs.old.items q ⊎ HasRead rows.now foot.now second own.now boarded.now best.now (length rows.now.places) q.0 q.1) }
+    ensures pairs { (q : Pair) → IsFound known.now pairs.new.items q ↔ (IsFound known.now pairs.old.items q ⊎ HasRead rows.now foot.now second before own.now boarded.now best.now (length rows.now.places) q.0 q.1) }
     ensures capacity { vec_capacity pairs.old ≤ vec_capacity pairs.new }
 {
     for stop in 0..rows.stops() {
-        read_stop(rows, stop, second, foot, own, boarded, best, known, pairs);
+        read_stop(
+            rows, stop, second, before, foot, own, boarded, best, known, pairs,
+        );
     }
 }

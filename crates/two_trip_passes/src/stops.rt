@@ -86,13 +86,14 @@ fn put_due(stop: u32, second: u32, due: &mut [u32])
     due[stop as usize] = second;
 }
 
-// Boards first rides at all calls at a stop, after the walk from the start, unless no row departs there that isn't held.
+// Boards first rides at all calls at a stop that is walked to before a second, unless no row departs there that isn't held.
 fn board_stop(
     table: &Timetable,
     routes: &[RouteRows],
     stop: u32,
     foot: &[u32],
     second: u32,
+    before: u64,
     due: &mut [u32],
     rows: &mut FirstRows,
     first: &mut [u32],
@@ -106,14 +107,18 @@ fn board_stop(
     requires dues { length due.old ≡ length first.old }
     requires due { AreDue routes.now rows.old due.old }
     ensures goes { FirstGoes routes.now foot.now second rows.old rows.new first.old first.new }
-    ensures caught { IsStopBoarded routes.now (second + slice_index foot.now stop + table.now.buffer) rows.new stop }
+    ensures caught { second + slice_index foot.now stop < before → IsStopBoarded routes.now (second + slice_index foot.now stop + table.now.buffer) rows.new stop }
     ensures dues { length due.new ≡ length due.old }
     ensures due { AreDue routes.now rows.new due.new }
     ensures sound { (s : Source) → s.second ≡ second → s.network.buffer ≡ table.now.buffer → AreRoutesOf s.network.trips routes.now → IsFootOf s foot.now
         → FirstSound s routes.now rows.old first.old → FirstSound s routes.now rows.new first.new }
 {
-    let wanted = second as u64 + foot[stop as usize] as u64 + table.buffer() as u64;
     let at = stop as usize;
+    let walked = second as u64 + foot[at] as u64;
+    if walked >= before {
+        return;
+    }
+    let wanted = walked + table.buffer() as u64;
     if due[at] != NEVER && due[at] as u64 <= wanted {
         return;
     }
@@ -122,12 +127,13 @@ fn board_stop(
     board_calls(routes, calls, wanted, foot, second, rows, first);
 }
 
-/// Boards first rides at all calls, after the walks from the start.
+/// Boards first rides at all calls at stops that are walked to before a second. What isn't boarded at the others stays due.
 pub fn board_all(
     table: &Timetable,
     routes: &[RouteRows],
     foot: &[u32],
     second: u32,
+    before: u64,
     due: &mut [u32],
     rows: &mut FirstRows,
     first: &mut [u32],
@@ -142,11 +148,12 @@ pub fn board_all(
     ensures goes { FirstGoes routes.now foot.now second rows.old rows.new first.old first.new }
     ensures dues { length due.new ≡ length due.old }
     ensures due { AreDue routes.now rows.new due.new }
-    ensures caught { (x : ℕ) → x < length first.old → IsStopBoarded routes.now (second + slice_index foot.now x + table.now.buffer) rows.new x }
+    ensures caught { (x : ℕ) → x < length first.old → second + slice_index foot.now x < before
+        → IsStopBoarded routes.now (second + slice_index foot.now x + table.now.buffer) rows.new x }
     ensures sound { (s : Source) → s.second ≡ second → s.network.buffer ≡ table.now.buffer → AreRoutesOf s.network.trips routes.now → IsFootOf s foot.now
         → FirstSound s routes.now rows.old first.old → FirstSound s routes.now rows.new first.new }
 {
     for stop in 0..table.stops() {
-        board_stop(table, routes, stop, foot, second, due, rows, first);
+        board_stop(table, routes, stop, foot, second, before, due, rows, first);
     }
 }

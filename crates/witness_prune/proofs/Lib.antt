@@ -5,5 +5,6 @@ pub mod RowLemmas
 pub mod AdvanceLemmas
 pub mod OwnLemmas
 pub mod NeededTable
+pub mod StepLemmas
 pub mod SearchLemmas
 pub mod OpenLemmas

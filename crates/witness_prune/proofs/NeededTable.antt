@@ -19,11 +19,11 @@ use Rattle.route_split.specs.Table.{Table}
 use Rattle.stop_rows.specs.Rows.{Rows, entry, place_at}
 use Rattle.piece_laws.specs.Pieces.{IsNeeded}
 use Rattle.piece_laws.specs.Tables.{OwnStands}
-use Rattle.two_trip_labels.specs.Closed.{last_second, ArePartsOf, Kept, IsClosed}
+use Rattle.two_trip_labels.specs.Closed.{last_second, ArePartsOf, Kept}
 use Rattle.two_trip_passes.specs.Own.{own_at}
-use Rattle.two_trip_passes.specs.Read.{IsFound, HasRead}
-use Rattle.two_trip_passes.specs.Step.{parts_of, AreRowsOf, IsReal}
-use Rattle.two_trip_passes.proofs.NeededTable.{labels_read}
+use Rattle.two_trip_passes.specs.Read.{IsFound, IsReadOf, IsReadUntil, HasRead}
+use Rattle.two_trip_passes.specs.Step.{parts_of, AreRowsOf}
+use Rattle.two_trip_passes.proofs.NeededTable.{read_needs, needed_reads}
 use Rattle.witness_prune.specs.Needed.{Pair}
 use Rattle.witness_prune.specs.Labels.{IsKept, IsDone}
 use Rattle.witness_prune.specs.Scratch.{row_from, parts_at, IsFootFrom, AddsNeeded}
@@ -44,6 +44,17 @@ none_before known old new q P none is = (there, back)
 
     back : Contains known q ⊎ P → IsFound known new q
     back h = elim h [ inl was ↦ is.1 (inl (inl was)) | inr p ↦ is.1 (inr p) ]
+
+-- the pairs that were found are added
+pub pairs_added : (needed pairs needed' : List Pair) (q : Pair) (P : Type 0) → IsFound needed pairs q ↔ (Contains needed q ⊎ P)
+    → Contains needed' q ↔ (Contains needed q ⊎ Contains pairs q) → Contains needed' q ↔ (Contains needed q ⊎ P)
+pairs_added needed pairs needed' q P found all = (there, back)
+  where
+    there : Contains needed' q → Contains needed q ⊎ P
+    there h = elim (all.0 h) [ inl old ↦ inl old | inr new ↦ found.0 (inr new) ]
+
+    back : Contains needed q ⊎ P → Contains needed' q
+    back h = all.1 (found.1 h)
 
 module _ (n : Network) (rows : Rows) (table : Table) (parts : AreParts n rows table) where
   pub all_rows : AreRowsOf n rows
@@ -71,34 +82,61 @@ module _ (n : Network) (rows : Rows) (table : Table) (parts : AreParts n rows ta
         (subst (λ (rs : List Route). AreRoutes n.trips (map (λ (r : Route). r.trips) rs)) (sym same) parts.routes_are) whole
         (λ x within. on_foot.each x.0 (omega (arith, within, all_rows.one_each))) (λ p within. refl)
 
-    pub step_done : (lent row : List ℕ) (second z : ℕ) (k k' : Kept) → lent ≡ foot → ((p : ℕ) → p < length rows.nodes → slice_index row p ≡ entry rows place p)
+    pub step_done : (lent row : List ℕ) (second before z : ℕ) (k k' : Kept) → lent ≡ foot → ((p : ℕ) → p < length rows.nodes → slice_index row p ≡ entry rows place p)
         → ((n : Network) (q : NodeNo) (z : ℕ) → IsNetwork n → n.buffer ≡ table.buffer → AreRowsOf n rows → ArePartsOf n q (parts_of routes lent row rows) → second ≤ z
-        → IsKept n q z (parts_of routes lent row rows) k → IsDone n q second (parts_of routes lent row rows) k')
-        → second ≤ z → IsKept n q z (parts_at routes rows place foot) k → IsDone n q second (parts_at routes rows place foot) k'
-    step_done lent row second z k k' e entries advance le kept =
+        → IsKept n q z (parts_of routes lent row rows) k → IsDone n q second before (parts_of routes lent row rows) k')
+        → second ≤ z → IsKept n q z (parts_at routes rows place foot) k → IsDone n q second before (parts_at routes rows place foot) k'
+    step_done lent row second before z k k' e entries advance le kept =
         let goes = subst (λ (xs : List ℕ). (n : Network) (q : NodeNo) (z : ℕ) → IsNetwork n → n.buffer ≡ table.buffer → AreRowsOf n rows → ArePartsOf n q (parts_of routes xs row rows) → second ≤ z
-        → IsKept n q z (parts_of routes xs row rows) k → IsDone n q second (parts_of routes xs row rows) k') e advance in
+        → IsKept n q z (parts_of routes xs row rows) k → IsDone n q second before (parts_of routes xs row rows) k') e advance in
         let back = λ (p : ℕ). λ (l : p < length rows.nodes). sym (entries p l) in
         let d = goes n q z parts.rules.network (sym parts.table_is.buffer_is) all_rows
         (parts_alike n q routes foot rows all_rows (row_from rows place) row entries place_parts) le
         (kept_alike n q routes foot rows all_rows (row_from rows place) row entries z k kept) in
         record {
           real = real_alike n q routes foot rows all_rows row (row_from rows place) back second k' d.real;
-          closed = λ h. closed_alike n q routes foot rows all_rows row (row_from rows place) back second h k' (d.closed h);
+          closed = λ h. closed_alike n q routes foot rows all_rows row (row_from rows place) back second before h k' (d.closed h);
         }
 
-    pub step_adds : (us : List StopNo) (z : ℕ) (own : List ℕ) (k : Kept) (needed pairs needed' : List Pair)
-        → ((u : StopNo) → Contains us u → node_of n u ≡ q) → OwnStands n us z (own_at own)
-        → IsClosed n (parts_at routes rows place foot) z (1 + last_second) k → IsReal n q z (parts_at routes rows place foot) k
-        → ((p : Pair) → IsFound needed pairs p ↔ (Contains needed p ⊎ HasRead rows foot z own k.boarded k.best (length rows.places) p.0 p.1))
-        → ((p : Pair) → Contains needed' p ↔ (Contains needed p ⊎ Contains pairs p)) → AddsNeeded n us z needed needed'
-    step_adds us z own k needed pairs needed' at owns closed real read all x y = (there, back)
-      where
-        exact : HasRead rows foot z own k.boarded k.best (length rows.places) x y ↔ IsNeeded n us z x y
-        exact = labels_read n us q z routes foot (row_from rows place) rows own k parts.rules.network day place_parts all_rows at owns closed real.sound x y
+    module _ (us : List StopNo) (z : ℕ) (own : List ℕ) (at : (u : StopNo) → Contains us u → node_of n u ≡ q) (owns : OwnStands n us z (own_at own)) where
+      -- each needed walk is read off the labels, once the stops of the place were boarded
+      reads : (g : ℕ) (k : Kept) → z < g → IsDone n q z g (parts_at routes rows place foot) k → (x y : StopNo) (d : IsNeeded n us z x y)
+          → IsReadOf rows foot z own k.boarded k.best d.v d.piece.off2.arr x y
+      reads g k near done x y d =
+          needed_reads n us q z g routes foot (row_from rows place) rows own k parts.rules.network day place_parts all_rows at owns (done.closed (1 + last_second)) near done.real.sound x y d
 
-        there : Contains needed' (x, y) → Contains needed (x, y) ⊎ IsNeeded n us z x y
-        there h = elim ((all (x, y)).0 h) [ inl old ↦ inl old | inr new ↦ elim ((read (x, y)).0 (inr new)) [ inl old ↦ inl old | inr r ↦ inr (exact.0 r) ] ]
+      -- where all that the labels say is known, so is all that is needed
+      pub none_added : (g : ℕ) (k : Kept) (needed : List Pair) → z < g → IsDone n q z g (parts_at routes rows place foot) k
+          → ((v : StopNo) → v.0 < length rows.places → IsReadUntil rows foot z own k.boarded k.best needed v 0) → AddsNeeded n us z needed needed
+      none_added g k needed near done until x y = (λ h. inl h, back)
+        where
+          back : Contains needed (x, y) ⊎ IsNeeded n us z x y → Contains needed (x, y)
+          back (inl was) = was
+          back (inr d) =
+              let r = reads g k near done x y d in
+              elim (until d.v r.exists (x, y) r.read) [ inl has ↦ has | inr l ↦ absurd (omega (arith, l)) ]
 
-        back : Contains needed (x, y) ⊎ IsNeeded n us z x y → Contains needed' (x, y)
-        back h = elim h [ inl old ↦ (all (x, y)).1 (inl old) | inr new ↦ (all (x, y)).1 ((read (x, y)).1 (inr (exact.1 new))) ]
+      -- the pairs of second rides that are left before a second are those that are needed, if that is no earlier than the second
+      -- after the last one that is needed and isn't known
+      pub step_adds : (g until before : ℕ) (k k' : Kept) (needed needed' : List Pair) → z < g → IsDone n q z g (parts_at routes rows place foot) k
+          → ((v : StopNo) → v.0 < length rows.places → IsReadUntil rows foot z own k.boarded k.best needed v until) → until ≤ before → z < before
+          → IsDone n q z before (parts_at routes rows place foot) k'
+          → ((p : Pair) → Contains needed' p ↔ (Contains needed p ⊎ HasRead rows foot z before own k'.boarded k'.best (length rows.places) p.0 p.1))
+          → AddsNeeded n us z needed needed'
+      step_adds g until before k k' needed needed' near done sought le near' done' all x y = (there, back)
+        where
+          there : Contains needed' (x, y) → Contains needed (x, y) ⊎ IsNeeded n us z x y
+          there h = elim ((all (x, y)).0 h) [
+            | inl old ↦ inl old
+            | inr r ↦ inr (read_needs n us q z before routes foot (row_from rows place) rows own k' parts.rules.network day place_parts all_rows at owns (done'.closed (1 + last_second)) done'.real.sound x y r)
+          ]
+
+          back : Contains needed (x, y) ⊎ IsNeeded n us z x y → Contains needed' (x, y)
+          back (inl old) = (all (x, y)).1 (inl old)
+          back (inr d) =
+              let r = reads g k near done x y d in
+              let r' = reads before k' near' done' x y d in
+              (all (x, y)).1 (elim (sought d.v r.exists (x, y) r.read) [
+                | inl old ↦ inl old
+                | inr l ↦ inr (record { stop = d.v; exists = r'.exists; read = record { early = omega (arith, l, le, r.left_by, r'.left_by); read = r'.read } })
+              ])

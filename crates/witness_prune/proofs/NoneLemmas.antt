@@ -109,7 +109,7 @@ module _ (routes : List Route) (rows : Rows) (k : Kept) (none : IsNone routes ro
     second_none s = record { each = λ i more low. absurd (omega (arith, low, ap (λ (m : Held). m.row) (no_held_at i), whole.few_trips)) }
 
 module _ (n : Network) (q : NodeNo) (z : ℕ) (p : Parts) (rows : Rows) (k : Kept) (parts : ArePartsOf n q p) (none : IsNone p.routes rows k) where
-  closed_none : IsClosed n p z 0 k
+  closed_none : IsClosed n p z 0 0 k
   closed_none = record {
     rows = record { each = λ r route is. first_closed p.routes rows k none (length n.stops) r route is (parts.whole r route is) p.foot z };
     caught = λ r i row route on is at may more within early late. absurd (omega (arith, early));

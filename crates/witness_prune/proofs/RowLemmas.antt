@@ -21,8 +21,8 @@ module _ (n : Network) (q : NodeNo) (routes : List Route) (foot : List ℕ) (row
     by_place = λ x within. subst (λ (m : ℕ). m ≡ slice_index foot x.0) (sym (same (place_at rows x) (at.within x within))) (parts.by_place x within);
   }
 
-  pub closed_alike : (z h : ℕ) (k : Kept) → IsClosed n (parts_of routes foot row rows) z h k → IsClosed n (parts_of routes foot row' rows) z h k
-  closed_alike z h k c = record {
+  pub closed_alike : (z g h : ℕ) (k : Kept) → IsClosed n (parts_of routes foot row rows) z g h k → IsClosed n (parts_of routes foot row' rows) z g h k
+  closed_alike z g h k c = record {
     rows = c.rows;
     caught = c.caught;
     first_low = c.first_low;
@@ -51,4 +51,4 @@ module _ (n : Network) (q : NodeNo) (routes : List Route) (foot : List ℕ) (row
   }
 
   pub kept_alike : (z : ℕ) (k : Kept) → IsKept n q z (parts_of routes foot row rows) k → IsKept n q z (parts_of routes foot row' rows) k
-  kept_alike z k kept = record { real = real_alike z k kept.real; closed = closed_alike z 0 k kept.closed }
+  kept_alike z k kept = record { real = real_alike z k kept.real; closed = closed_alike z 0 0 k kept.closed }

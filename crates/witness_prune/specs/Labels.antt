@@ -4,7 +4,8 @@
 --     HasDue routes rows l     each row that departs from a stop at the second that is due there, or later, is held
 --     IsNone routes rows k     nothing is held, and no stop and no place has a label
 --     IsKept n q z p k         at the second z they are real, and all that was begun is done
---     IsDone n q z p k         at the second z they are real, and all that is to be done before any second is done
+--     IsDone n q z g p k       at the second z they are real, first rides were boarded at all stops that are walked to before the second g,
+--                              and all that follows from what was boarded is done
 use Rattle.std.specs.Prelude.{◌≡◌, ℕ, List, length, replicate}
 use Rattle.move_model.specs.declared.network.Network.{Network}
 use Rattle.move_model.specs.declared.network.NodeNo.{NodeNo}
@@ -55,8 +56,8 @@ pub record IsNone (routes : List Route) (rows : Rows) (k : Kept) : Type 0 where
 
 pub record IsKept (n : Network) (q : NodeNo) (z : ℕ) (p : Parts) (k : Kept) : Type 0 where
   pub real : IsReal n q z p k
-  pub closed : IsClosed n p z 0 k
+  pub closed : IsClosed n p z 0 0 k
 
-pub record IsDone (n : Network) (q : NodeNo) (z : ℕ) (p : Parts) (k : Kept) : Type 0 where
+pub record IsDone (n : Network) (q : NodeNo) (z g : ℕ) (p : Parts) (k : Kept) : Type 0 where
   pub real : IsReal n q z p k
-  pub closed : (h : ℕ) → IsClosed n p z h k
+  pub closed : (h : ℕ) → IsClosed n p z g h k

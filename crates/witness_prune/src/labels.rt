@@ -95,12 +95,13 @@ fn clear_keys(keys: &mut Vec<Second>)
     keys.as_mut_slice().fill(NO_SECOND);
 }
 
-// Boards first rides from all stops.
+// Boards first rides from all stops that are walked to before a second.
 fn board(
     table: &Timetable,
     routes: &[RouteRows],
     foot: &[u32],
     second: u32,
+    before: u64,
     due: &mut Vec<u32>,
     rows: &mut FirstRows,
     first: &mut Vec<u32>,
@@ -115,7 +116,8 @@ fn board(
     ensures goes { FirstGoes routes.now foot.now second rows.old rows.new first.old.items first.new.items }
     ensures dues { length due.new.items ≡ length due.old.items }
     ensures due { AreDue routes.now rows.new due.new.items }
-    ensures caught { (x : ℕ) → x < length first.old.items → IsStopBoarded routes.now (second + slice_index foot.now x + table.now.buffer) rows.new x }
+    ensures caught { (x : ℕ) → x < length first.old.items → second + slice_index foot.now x < before
+        → IsStopBoarded routes.now (second + slice_index foot.now x + table.now.buffer) rows.new x }
     ensures sound { (s : Source) → s.second ≡ second → s.network.buffer ≡ table.now.buffer → AreRoutesOf s.network.trips routes.now → IsFootOf s foot.now
         → FirstSound s routes.now rows.old first.old.items → FirstSound s routes.now rows.new first.new.items }
 {
@@ -125,6 +127,7 @@ fn board(
         routes,
         foot,
         second,
+        before,
         dues,
         rows,
         first.as_mut_slice(),
@@ -233,8 +236,8 @@ impl Labels {
         clear_keys(&mut self.best);
     }
 
-    /// Goes on to an earlier second: what became catchable is boarded, and what follows from it is done. The cuts are scratch
-    /// memory.
+    /// Goes on to a second that isn't later: what became catchable at stops that are walked to before another second is boarded,
+    /// and what follows from it is done. What isn't boarded stays due. The cuts are scratch memory.
     pub fn advance(
         &mut self,
         table: &Timetable,
@@ -244,6 +247,7 @@ impl Labels {
         foot: &[u32],
         foot_row: &[u32],
         second: u32,
+        before: u64,
         cuts: &mut Vec<u32>,
     )
         requires routes { routes.now ≡ table.now.routes }
@@ -262,13 +266,14 @@ impl Labels {
         ensures done { (n : Network) (q : NodeNo) (z : ℕ) → IsNetwork n → n.buffer ≡ table.now.buffer → AreRowsOf n rows.now
             → ArePartsOf n q (parts_of routes.now foot.now foot_row.now rows.now) → second ≤ z
             → IsKept n q z (parts_of routes.now foot.now foot_row.now rows.now) (kept_of self.old)
-            → IsDone n q second (parts_of routes.now foot.now foot_row.now rows.now) (kept_of self.new) }
+            → IsDone n q second before (parts_of routes.now foot.now foot_row.now rows.now) (kept_of self.new) }
     {
         board(
             table,
             routes,
             foot,
             second,
+            before,
             &mut self.due,
             &mut self.first_rows,
             &mut self.first,

@@ -1,8 +1,8 @@
-use Rattle.std.proofs.Common.{◌≡◌, ◌<◌, ℕ, length, map, Vec, Global, get_or, sym, ap, subst, ◌∙◌, inl, inr, arith}
+use Rattle.std.proofs.Common.{◌≡◌, ℕ, length, Vec, Global, get_or, sym, ap, ◌∙◌, inl, inr, arith}
 use Rattle.std.proofs.lemmas.Bool.{cases_eq}
 use Rattle.std.proofs.lemmas.List.{length_push, length-map, get_or_read}
 use Rattle.std.proofs.lemmas.Option.{slice_get_within, get_or_from_slice_get}
-use Rattle.std.specs.Prelude.{replicate, slice_get, Some}
+use Rattle.std.specs.Prelude.{replicate}
 use Rattle.route_split.specs.Route.{Route}
 use Rattle.piece_laws.specs.Tables.{never}
 use Rattle.two_trip_labels.proofs.FreshLemmas.{pushed_old, pushed_last}

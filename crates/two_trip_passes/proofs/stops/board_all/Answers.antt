@@ -1,4 +1,4 @@
-use Rattle.std.proofs.Common.{ℕ, ◌+◌, ◌∙◌}
+use Rattle.std.proofs.Common.{ℕ, ◌+◌, ◌<◌, ◌∙◌}
 use Rattle.std.specs.Prelude.{slice_index}
 use Rattle.two_trip_labels.proofs.FirstLemmas.{goes_on}
 use Rattle.two_trip_passes.proofs.StopLemmas.{boarded_more}
@@ -12,6 +12,6 @@ loop-stop-preserved c =
       goes = goes_on c.args.routes.now c.args.foot.now c.args.second c.args.rows.now c.loop-stop.rows c.board_stop.new.rows c.args.first.now c.loop-stop.first c.board_stop.new.first was.goes b.goes;
       dues = b.dues ∙ was.dues;
       due = b.due;
-      caught = boarded_more c.args.routes.now (λ (x : ℕ). c.args.second + slice_index c.args.foot.now x + c.args.table.now.buffer) c.loop-stop.rows c.board_stop.new.rows c.loop-stop.stop b.goes.rows_fall was.caught b.caught;
+      caught = boarded_more c.args.routes.now (λ (x : ℕ). c.args.second + slice_index c.args.foot.now x < c.args.before) (λ (x : ℕ). c.args.second + slice_index c.args.foot.now x + c.args.table.now.buffer) c.loop-stop.rows c.board_stop.new.rows c.loop-stop.stop b.goes.rows_fall was.caught b.caught;
       sound = λ s at buffer of walks h. b.sound s at buffer of walks (was.sound s at buffer of walks h);
     }

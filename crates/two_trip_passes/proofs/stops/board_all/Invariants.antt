@@ -10,7 +10,7 @@ invariant-loop-stop l = record {
   goes : FirstGoes l.routes l.foot l.second l.fn.rows l.rows l.fn.first l.first;
   dues : length l.due ≡ length l.fn.due;
   due : AreDue l.routes l.rows l.due;
-  caught : (x : ℕ) → x < l.stop → IsStopBoarded l.routes (l.second + slice_index l.foot x + l.table.buffer) l.rows x;
+  caught : (x : ℕ) → x < l.stop → l.second + slice_index l.foot x < l.before → IsStopBoarded l.routes (l.second + slice_index l.foot x + l.table.buffer) l.rows x;
   sound : (s : Source) → s.second ≡ l.second → s.network.buffer ≡ l.table.buffer → AreRoutesOf s.network.trips l.routes → IsFootOf s l.foot
       → FirstSound s l.routes l.fn.rows l.fn.first → FirstSound s l.routes l.rows l.first;
 }

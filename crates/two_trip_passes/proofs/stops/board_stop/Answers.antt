@@ -12,7 +12,7 @@ board_calls-requires-clause-exist c =
     (subst (λ (rs : List Route). LendsCalls rs c.args.stop c.at_stop-calls.result.now) (sym c.requires.routes) c.at_stop-calls.ensures.calls)
 
 pub returns-clause-caught : goal.returns-clause-caught
-returns-clause-caught c =
+returns-clause-caught c near =
     let lends = subst (λ (rs : List Route). LendsCalls rs c.args.stop c.at_stop-calls.result.now) (sym c.requires.routes) c.at_stop-calls.ensures.calls in
     subst (λ (b : ℕ). IsStopBoarded c.args.routes.now (c.args.second + slice_index c.args.foot.now c.args.stop + b) c.board_calls.new.rows c.args.stop) c.buffer.ensures
     (stop_boarded c.args.routes.now _ c.board_calls.new.rows c.args.stop c.at_stop-calls.result.now lends c.board_calls.ensures.boarded)

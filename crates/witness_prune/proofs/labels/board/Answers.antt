@@ -29,7 +29,7 @@ returns-clause-goes c =
 
 pub returns-clause-caught : goal.returns-clause-caught
 returns-clause-caught c =
-    subst (λ (xs : List ℕ). (x : ℕ) → x < length xs → IsStopBoarded c.args.routes.now (c.args.second + slice_index c.args.foot.now x + c.args.table.now.buffer) c.board_all.new.rows x)
+    subst (λ (xs : List ℕ). (x : ℕ) → x < length xs → c.args.second + slice_index c.args.foot.now x < c.args.before → IsStopBoarded c.args.routes.now (c.args.second + slice_index c.args.foot.now x + c.args.table.now.buffer) c.board_all.new.rows x)
     c.as_mut_slice.ensures.value c.board_all.ensures.caught
 
 pub returns-clause-sound : goal.returns-clause-sound

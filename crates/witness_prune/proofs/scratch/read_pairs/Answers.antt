@@ -11,9 +11,9 @@ returns-clause-pairs c q =
     let rows = c.args.rows.now in
     let known = c.args.known.now in
     let many = length rows.places in
-    let read = subst (λ (ls : List Ready). IsFound known c.read_all.new.pairs.items q ↔ (IsFound known c.clear.new.self.items q ⊎ HasRead rows c.args.foot.now c.args.second c.args.own.now ls c.args.labels.now.best.items many q.0 q.1))
+    let read = subst (λ (ls : List Ready). IsFound known c.read_all.new.pairs.items q ↔ (IsFound known c.clear.new.self.items q ⊎ HasRead rows c.args.foot.now c.args.second c.args.before c.args.own.now ls c.args.labels.now.best.items many q.0 q.1))
     c.as_slice-boarded.ensures.value
-    (subst (λ (ks : List Second). IsFound known c.read_all.new.pairs.items q ↔ (IsFound known c.clear.new.self.items q ⊎ HasRead rows c.args.foot.now c.args.second c.args.own.now c.as_slice-boarded.result.now ks many q.0 q.1))
+    (subst (λ (ks : List Second). IsFound known c.read_all.new.pairs.items q ↔ (IsFound known c.clear.new.self.items q ⊎ HasRead rows c.args.foot.now c.args.second c.args.before c.args.own.now c.as_slice-boarded.result.now ks many q.0 q.1))
     c.as_slice-best.ensures.value (c.read_all.ensures.pairs q)) in
-    none_before known c.clear.new.self.items c.read_all.new.pairs.items q (HasRead rows c.args.foot.now c.args.second c.args.own.now c.args.labels.now.boarded.items c.args.labels.now.best.items many q.0 q.1)
+    none_before known c.clear.new.self.items c.read_all.new.pairs.items q (HasRead rows c.args.foot.now c.args.second c.args.before c.args.own.now c.args.labels.now.boarded.items c.args.labels.now.best.items many q.0 q.1)
     c.clear.ensures.items read

@@ -73,6 +73,7 @@ returns-clause-done c n q z ok same are parts le kept =
     let foot_row = c.args.foot_row.now in
     let buffer = c.args.table.now.buffer in
     let second = c.args.second in
+    let before = c.args.before in
     let first_rows = c.board.new.rows in
     let first = c.board.new.first.items in
     let walked = c.walk.new.walked.items in
@@ -83,7 +84,7 @@ returns-clause-done c n q z ok same are parts le kept =
     let e : c.as_slice-first.result.now ≡ first = c.as_slice-first.ensures.value in
     let f : c.as_slice-ready.result.now ≡ ready = c.as_slice-ready.ensures.value in
     let g : c.args.places.now ≡ rows.places = c.requires.places in
-    let passes : Passes routes foot foot_row rows buffer second k first_rows first walked ready boarded held best = record {
+    let passes : Passes routes foot foot_row rows buffer second before k first_rows first walked ready boarded held best = record {
       boards = c.board.ensures.goes;
       caught = c.board.ensures.caught;
       boards_sound = c.board.ensures.sound;
@@ -104,9 +105,9 @@ returns-clause-done c n q z ok same are parts le kept =
           f c.ride.ensures.sound));
     } in
     record {
-      real = advance_real n q z second routes foot foot_row rows buffer k first_rows first walked ready boarded held best same are parts le
+      real = advance_real n q z second before routes foot foot_row rows buffer k first_rows first walked ready boarded held best same are parts le
           c.requires.fits.first c.requires.fits.best c.requires.foot passes ok kept.real;
-      closed = λ h. advance_closed n q z second routes foot foot_row rows buffer k first_rows first walked ready boarded held best same are parts le
+      closed = λ h. advance_closed n q z second before routes foot foot_row rows buffer k first_rows first walked ready boarded held best same are parts le
           c.requires.fits.first c.requires.fits.best c.requires.foot passes h kept.closed;
     }
 
