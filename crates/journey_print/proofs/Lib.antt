@@ -1,4 +1,5 @@
 mod ArcLemmas
+pub mod IndexLemmas
 pub mod LegLemmas
 mod RowLemmas
 pub mod WritingLemmas

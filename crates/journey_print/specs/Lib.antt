@@ -1,2 +1,3 @@
+pub mod Arcs
 pub mod Legs
 pub mod Records

@@ -1,9 +1,9 @@
 // The seconds of arcs.
-ghost use Rattle.std.specs.Prelude.{◌≡◌, ◌+◌, ◌<◌, ◌^◌};
+ghost use Rattle.std.specs.Prelude.{◌≡◌};
 ghost use Rattle.move_model.specs.Streets.{HasLeastArc};
 ghost use Rattle.journey_print.specs.Legs as spec;
 
-use move_model::{Arc, Network, NodeNo};
+use move_model::{Arc, NodeNo};
 
 // The seconds of an arc with these ends.
 #[tactic(auto, unfolding(crate::specs::Legs::seconds_between))]
@@ -31,7 +31,7 @@ fn lesser(left: Option<u32>, right: Option<u32>) -> Option<u32>
 }
 
 // The seconds of the least arc from one vertex to another.
-fn least_arc(arcs: &[Arc], from: NodeNo, to: NodeNo) -> Option<u32>
+pub(crate) fn least_arc(arcs: &[Arc], from: NodeNo, to: NodeNo) -> Option<u32>
     ensures value { result ≡ spec.least_arc arcs.now from to }
     ensures least { HasLeastArc arcs.now from to result }
 {
@@ -40,13 +40,4 @@ fn least_arc(arcs: &[Arc], from: NodeNo, to: NodeNo) -> Option<u32>
         least = lesser(least, seconds_between(arc, from, to));
     }
     least
-}
-
-/// The second at which the least arc between two vertices ends, if 64 bits hold it.
-pub fn arc_end(network: &Network, from: NodeNo, to: NodeNo, begins: u64) -> u64
-    ensures { begins + spec.least_seconds network.now.arcs from to < 2 ^ 64
-        → result ≡ begins + spec.least_seconds network.now.arcs from to }
-{
-    let seconds = least_arc(network.arcs.as_slice(), from, to).unwrap_or(0);
-    begins.saturating_add(u64::from(seconds))
 }

@@ -5,10 +5,11 @@ ghost use Rattle.move_model.specs.declared.network.Call.{Call};
 ghost use Rattle.move_model.specs.Streets.{IsWalk};
 ghost use Rattle.move_model.specs.Network.{streets, node_of};
 ghost use Rattle.move_model.specs.Journey.{IsRide, IsJourney};
+ghost use Rattle.journey_print.specs.Arcs.{TellsLeastArcs};
 ghost use Rattle.journey_print.specs.Legs as spec;
 ghost use Rattle.journey_print.specs.Records.{HasText, record_text, records_text};
 
-use crate::arcs::arc_end;
+use crate::LeastArcs;
 use crate::text::add_record;
 use csv::{Error, Writer};
 use itoa::Buffer;
@@ -58,16 +59,18 @@ fn add_walk(
     number: u32,
     journey: usize,
     network: &Network,
+    arcs: &LeastArcs,
     walk: &[NodeNo],
     begin: u64,
 ) -> Result<(), Error>
+    requires { TellsLeastArcs arcs.now network.now.arcs }
     ensures { OnOk result ((a b : NodeNo) (m : ℕ) → IsWalk (streets network.now) a walk.now b m → begin + m < 2 ^ 64
         → (text : List ℕ) → HasText out.old text
         → HasText out.new (text ++ records_text (spec.walk_records number journey network.now.arcs walk.now begin))) }
 {
     let mut begins = begin;
     for i in 0..walk.len().saturating_sub(1) {
-        let ends = arc_end(network, walk[i], walk[i + 1], begins);
+        let ends = arcs.end(walk[i], walk[i + 1], begins);
         add_arc(out, number, journey, walk[i], begins, walk[i + 1], ends)?;
         begins = ends;
     }
@@ -140,10 +143,12 @@ fn add_leg(
     number: u32,
     journey: usize,
     network: &Network,
+    arcs: &LeastArcs,
     walk: &[NodeNo],
     begin: u64,
     ride: Ride,
 ) -> Result<u64, Error>
+    requires { TellsLeastArcs arcs.now network.now.arcs }
     ensures { IfOk result (λ left. (a b : NodeNo) (m : ℕ) (on off : Call) → IsWalk (streets network.now) a walk.now b m
         → IsRide network.now ride on off → begin + m ≤ on.dep → (left ≡ off.arr)
         × ((text : List ℕ) → HasText out.old text → HasText out.new (text ++ records_text
@@ -158,19 +163,21 @@ fn add_leg(
     let Some(off) = trip.calls.get(ride.alight as usize) else {
         return Ok(0);
     };
-    add_walk(out, number, journey, network, walk, begin)?;
+    add_walk(out, number, journey, network, arcs, walk, begin)?;
     add_ride(out, number, journey, network, trip, on, off)?;
     Ok(u64::from(off.arr))
 }
 
-/// Writes the rows of the walks and rides of a journey.
+/// Writes the rows of the walks and rides of a journey. `arcs` tells the seconds of the network's least arcs.
 pub fn add_legs(
     out: &mut Writer<Vec<u8>>,
     number: u32,
     journey: usize,
     network: &Network,
+    arcs: &LeastArcs,
     found: &Journey,
 ) -> Result<(), Error>
+    requires { TellsLeastArcs arcs.now network.now.arcs }
     ensures { OnOk result ((s t : NodeNo) (arrive : ℕ) → IsJourney network.now s found.now t arrive → arrive < 2 ^ 64
         → (text : List ℕ) → HasText out.old text → HasText out.new (text ++ records_text
         (spec.leg_records number journey network.now found.now.walks found.now.rides found.now.depart))) }
@@ -187,6 +194,7 @@ pub fn add_legs(
             number,
             journey,
             network,
+            arcs,
             walks[i].as_slice(),
             begins,
             rides[i],
@@ -197,6 +205,7 @@ pub fn add_legs(
         number,
         journey,
         network,
+        arcs,
         walks[rides.len()].as_slice(),
         begins,
     )

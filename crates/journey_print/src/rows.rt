@@ -1,13 +1,14 @@
 // The text of rows, and its way to a sink.
 ghost use Rattle.std.specs.Prelude.{◌≡◌, [], ◌++◌, ◌<◌, ◌≤◌, ◌^◌, List, ℕ, All, IfOk, OnOk, OnErr, IsErrOf};
 ghost use Rattle.move_files.specs.Outside.{Rose, SendsPrefix};
+ghost use Rattle.journey_print.specs.Arcs.{TellsLeastArcs};
 ghost use Rattle.journey_print.specs.Legs.{IsPrintable};
 ghost use Rattle.journey_print.specs.Records as spec;
 ghost use Rattle.journey_print.specs.Records.{HasText, record_text, records_text};
 
 use crate::legs::add_legs;
 use crate::text::{add_record, new_writer, send, text_of};
-use crate::{PointAnswer, PrintStop};
+use crate::{LeastArcs, PointAnswer, PrintStop};
 use csv::{Error, Writer};
 use itoa::Buffer;
 use move_files::Sink;
@@ -98,14 +99,16 @@ fn add_finding(
     number: u32,
     journey: usize,
     network: &Network,
+    arcs: &LeastArcs,
     answer: &PointAnswer,
     finding: &Finding,
 ) -> Result<(), Error>
+    requires { TellsLeastArcs arcs.now network.now.arcs }
     ensures { OnOk result (IsPrintable network.now finding.now → (text : List ℕ) → HasText out.old text
         → HasText out.new (text ++ records_text (spec.finding_records number journey network.now answer.now finding.now))) }
 {
     add_pair(out, number, journey, answer, finding)?;
-    add_legs(out, number, journey, network, &finding.journey)
+    add_legs(out, number, journey, network, arcs, &finding.journey)
 }
 
 // Writes the rows of the findings of an answer.
@@ -113,14 +116,16 @@ fn add_findings(
     out: &mut Writer<Vec<u8>>,
     number: u32,
     network: &Network,
+    arcs: &LeastArcs,
     answer: &PointAnswer,
 ) -> Result<(), Error>
+    requires { TellsLeastArcs arcs.now network.now.arcs }
     ensures { OnOk result (All (IsPrintable network.now) answer.now.found → (text : List ℕ) → HasText out.old text
         → HasText out.new (text ++ records_text (spec.findings_from number 1 network.now answer.now answer.now.found))) }
 {
     let mut journey = 1usize;
     for finding in answer.found.as_slice() {
-        add_finding(out, number, journey, network, answer, finding)?;
+        add_finding(out, number, journey, network, arcs, answer, finding)?;
         journey += 1;
     }
     Ok(())
@@ -131,15 +136,17 @@ fn add_point(
     out: &mut Writer<Vec<u8>>,
     number: u32,
     network: &Network,
+    arcs: &LeastArcs,
     answer: &PointAnswer,
 ) -> Result<(), Error>
+    requires { TellsLeastArcs arcs.now network.now.arcs }
     ensures { OnOk result (All (IsPrintable network.now) answer.now.found → (text : List ℕ) → HasText out.old text
         → HasText out.new (text ++ records_text (spec.point_records number network.now answer.now answer.now.found))) }
 {
     if answer.found.is_empty() {
         add_none(out, number, answer)
     } else {
-        add_findings(out, number, network, answer)
+        add_findings(out, number, network, arcs, answer)
     }
 }
 
@@ -155,13 +162,15 @@ fn point_text(
     alloc: Global,
     number: u32,
     network: &Network,
+    arcs: &LeastArcs,
     answer: &PointAnswer,
 ) -> Result<Vec<u8>, Error>
+    requires { TellsLeastArcs arcs.now network.now.arcs }
     ensures { All (IsPrintable network.now) answer.now.found
         → IfOk result (λ text. text.items ≡ records_text (spec.point_records number network.now answer.now answer.now.found)) }
 {
     let mut out = new_writer(alloc);
-    add_point(&mut out, number, network, answer)?;
+    add_point(&mut out, number, network, arcs, answer)?;
     text_of(out)
 }
 
@@ -192,5 +201,27 @@ pub fn write_point<S: Sink>(
     ensures fault { IsErrOf result PrintStop.WriteFault → Rose (S.faults out.old) (S.faults out.new) }
     ensures counts { (S.faults out.old ≤ S.faults out.new) × (S.wants out.old ≤ S.wants out.new) }
 {
-    send(point_text(alloc, number, network, answer), out)
+    let arcs = LeastArcs::new(alloc, network.arcs.as_slice())?;
+    write_point_with(alloc, network, &arcs, number, answer, out)
+}
+
+/// Does what `write_point` does, where an index of the network's arcs is lent.
+pub fn write_point_with<S: Sink>(
+    alloc: Global,
+    network: &Network,
+    arcs: &LeastArcs,
+    number: u32,
+    answer: &PointAnswer,
+    out: &mut S,
+) -> Result<(), PrintStop>
+    requires { TellsLeastArcs arcs.now network.now.arcs }
+    ensures ok { S.tells → All (IsPrintable network.now) answer.now.found
+        → OnOk result (S.sent out.new ≡ S.sent out.old ++ records_text (spec.point_records number network.now answer.now answer.now.found)) }
+    ensures err { S.tells → All (IsPrintable network.now) answer.now.found
+        → OnErr result (SendsPrefix (S.sent out.old) (records_text (spec.point_records number network.now answer.now answer.now.found)) (S.sent out.new)) }
+    ensures grows { S.tells → (more : List ℕ) × (S.sent out.new ≡ S.sent out.old ++ more) }
+    ensures fault { IsErrOf result PrintStop.WriteFault → Rose (S.faults out.old) (S.faults out.new) }
+    ensures counts { (S.faults out.old ≤ S.faults out.new) × (S.wants out.old ≤ S.wants out.new) }
+{
+    send(point_text(alloc, number, network, arcs, answer), out)
 }

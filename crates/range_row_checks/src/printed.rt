@@ -1,8 +1,8 @@
 // The text of the rows of a range.
 use crate::sample::{answer, network};
-use journey_print::PrintStop;
+use journey_print::{LeastArcs, PrintStop};
 use move_files::MemSink;
-use range_print::{RangeAnswer, write_range};
+use range_print::{RangeAnswer, write_range, write_range_with};
 use std::alloc::Global;
 use std::process::Abort;
 use std::test::Fail;
@@ -65,10 +65,11 @@ fn rows(rt: HostRuntime) -> Result<(), Fail> {
 // What is sent where the second write of ten bytes fails.
 fn expect_part(rt: &impl Abort, alloc: Global, answer: &RangeAnswer) -> Result<(), Fail> {
     let network = network(alloc)?;
+    let arcs = LeastArcs::new(alloc, network.arcs.as_slice())?;
     let mut out = MemSink::new(alloc);
     out.piece(10);
     out.fail_write(2)?;
-    let sent = write_range(alloc, &network, 1, answer, &mut out);
+    let sent = write_range_with(alloc, &network, &arcs, 1, answer, &mut out);
     assert_eq!(rt; sent, Err(PrintStop::WriteFault));
     assert_eq!(rt; out.taken(), b"1,0,none,,".as_slice());
     Ok(())

@@ -1,6 +1,7 @@
-use Rattle.std.proofs.Common.{◌≡◌, ◌+◌, ◌<◌, ◌≤◌, length, get_or, refl, arith}
+use Rattle.std.proofs.Common.{◌≡◌, ◌+◌, ◌<◌, ◌≤◌, ◌^◌, length, get_or, refl, arith}
 use Rattle.move_model.specs.declared.network.NodeNo.{NodeNo}
 use Rattle.journey_print.specs.Legs.{least_seconds}
+use Rattle.journey_print.proofs.IndexLemmas.{least_seconds-told}
 use Rattle.journey_print.proofs.LegLemmas.{walk_on, walk_records-drop, walk_records-end}
 use Rattle.journey_print.proofs.WritingLemmas.{left_is, none_written, row_written, all_written}
 use Rattle.journey_print.proofs.legs.add_walk.Goals as goal
@@ -22,8 +23,11 @@ loop-i-preserved c = λ a b m is small.
     let was = c.loop-i.invariant a b m is small in
     let within : c.loop-i.i + 1 < length c.args.walk.now = omega arith in
     let on = walk_on n walk b (c.args.begin + m) i c.loop-i.begins _ no_node within was.0 refl in
-    let ends : c.arc_end-ends.result ≡ c.loop-i.begins + least_seconds c.args.network.now.arcs (get_or c.args.walk.now c.loop-i.i no_node) (get_or c.args.walk.now (c.loop-i.i + 1) no_node) =
-    c.arc_end-ends.ensures (omega (arith, on.ends, small)) in (
+    let told = least_seconds-told c.args.arcs.now n.arcs c.requires (get_or walk i no_node) (get_or walk (i + 1) no_node) in
+    let step : c.loop-i.begins + least_seconds c.args.arcs.now (get_or walk i no_node) (get_or walk (i + 1) no_node) < 2 ^ 64
+    → c.end-ends.result ≡ c.loop-i.begins + least_seconds c.args.arcs.now (get_or walk i no_node) (get_or walk (i + 1) no_node) = c.end-ends.ensures in
+    let ends : c.end-ends.result ≡ c.loop-i.begins + least_seconds n.arcs (get_or walk i no_node) (get_or walk (i + 1) no_node) =
+    (rw told at step) (omega (arith, on.ends, small)) in (
       walk_on n walk b (c.args.begin + m) i c.loop-i.begins _ no_node within was.0 (omega (arith, ends)),
       λ text h.
           row_written _ _ _ _ _ _ text
