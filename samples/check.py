@@ -3,9 +3,9 @@
 
     samples/check.py PROGRAM        such as crates/planner/out/planner
 
-The rows of the samples must be those of crates/planner/stdout and samples/agency/rows.csv; for each faulty file nothing may
-be on standard output, and on standard error the line that stands here. A word that is not UTF-8, a closed standard output and
-a full one must end as they should, too. Exits 1 where something differs.
+The rows of the samples must be those of crates/planner/stdout and samples/agency/rows.csv, and a city's lines those that stand
+here; for each faulty file nothing may be on standard output, and on standard error the line that stands here. A word that is not
+UTF-8, a closed standard output and a full one must end as they should, too. Exits 1 where something differs.
 """
 import contextlib
 import os
@@ -16,6 +16,10 @@ import tempfile
 TOP = os.path.dirname(os.path.dirname(os.path.abspath(__file__)))
 BASE = "plan base base.gr - 20250303 1000 q.csv"
 AGENCY = "plan feed streets.gr streets.co 20250501 500 queries.csv"
+CITY = "city 40 12 7"
+CITY_LINES = (
+    b"vertices 1600\narcs 6240\nstops 120\ntrips 560\nshortcuts 161\nqueries 20\npairs 31\nspans 38\narrivals 2052186\n"
+)
 HEADS = {
     "stops": "stop_id,location_type,stop_lat,stop_lon",
     "calendar": "service_id,monday,tuesday,wednesday,thursday,friday,saturday,sunday,start_date,end_date",
@@ -77,7 +81,9 @@ FAULTS = [
     ("base.co", "v 1 0 0\n", "refused: CO row 1: line"),
     ("base.co", None, "no file: CO"),
     ("q.csv", table("queries", "best,node:1,node:4,08:00:00,,2"), "refused: QUERIES row 1: kind"),
-    ("q.csv", table("queries", "range,node:1,node:4,07:00:00,09:00:00,2"), "refused: QUERIES row 1: unbuilt"),
+    ("q.csv", table("queries", "by,node:1,node:4,07:00:00,,2"), "refused: QUERIES row 1: unbuilt"),
+    ("q.csv", table("queries", "range,node:1,node:4,00:00:00,24:00:00,2"), "refused: QUERIES row 1: window 86401"),
+    ("q.csv", table("queries", "range,node:1,node:4,08:00:00,07:59:59,2"), "refused: QUERIES row 1: window 0"),
     ("q.csv", table("queries", "at,home,node:4,08:00:00,,2"), "refused: QUERIES row 1: place"),
     ("q.csv", table("queries", "at,node:1,node:5,08:00:00,,2"), "refused: QUERIES row 1: vertex 5"),
     ("q.csv", table("queries", "at,node:1,node:4,08:00,,2"), "refused: QUERIES row 1: time"),
@@ -104,6 +110,7 @@ def cases():
     rows = files_in("crates/planner")["stdout"]
     yield BASE, base, rows, b""
     yield AGENCY, agency, agency["rows.csv"], b""
+    yield CITY, {}, CITY_LINES, b""
     for name, text, line in FAULTS:
         changed = dict(base)
         changed[name] = text.encode() if isinstance(text, str) else text
@@ -127,6 +134,7 @@ def ends():
     usage = b"usage: planner plan FEED GR CO DATE SCALE QUERIES [BUFFER] |"
     yield "a word that is not UTF-8", [b"plan", b"\xff", *sample[2:]], None, 2, usage
     yield "no word", [], None, 2, usage
+    yield "a city of four rows", [b"city", b"4", b"0", b"1"], None, 2, usage
     yield "a full standard output", sample, "/dev/full", 6, b"write fault\n"
     yield "a closed standard output", sample, "closed", 6, b"write fault\n"
     yield "a missing folder", [b"plan", b"none", *sample[2:]], None, 4, b"no file: stops.txt\n"

@@ -1,4 +1,6 @@
 pub mod PrintLaws
 pub mod SentLemmas
-pub mod SearchLemmas
+pub mod RangeLaws
+pub mod CountLemmas
 pub mod WeakerLaws
+pub mod RoomLemmas

@@ -2,48 +2,64 @@
 use Rattle.std.proofs.Common.{◌≡◌, ◌∙◌, ℕ, ◌+◌, ◌++◌, ◌<◌, List, [], ◌∷◌, length, take, get_or, refl, sym, ap, subst, arith, append_assoc, append-nil, take_all, inl, inr}
 use Rattle.std.proofs.Math.Seq.{take-append-add}
 use Rattle.std.proofs.lemmas.List.{take_more, length-take-le}
-use Rattle.move_model.specs.declared.network.NodeNo.{NodeNo}
 use Rattle.move_model.specs.declared.network.Network.{Network}
-use Rattle.move_model.specs.declared.journey.Finding.{Finding}
 use Rattle.move_model.specs.declared.query.Place.{Place}
 use Rattle.move_model.specs.declared.query.Query.{Query}
 use Rattle.move_model.specs.declared.query.Query.TheVariants as query
 use Rattle.move_files.specs.Outside.{SendsPrefix}
 use Rattle.journey_print.specs.declared.answer.PointAnswer.{PointAnswer}
 use Rattle.journey_print.specs.Records.{header_record, point_records, record_text, records_text}
+use Rattle.range_print.specs.declared.answer.RangeAnswer.{RangeAnswer}
+use Rattle.range_print.specs.Rows.{range_records}
 use Rattle.query_table.specs.Queries.{IsQuery}
 use Rattle.compiled_laws.proofs.Points.{point_exact}
-use Rattle.compiled_laws.proofs.Transfers.{point_transfers}
+use Rattle.compiled_laws.proofs.Ranges.{range_exact}
+use Rattle.compiled_laws.proofs.Transfers.{point_transfers, range_transfers}
 use Rattle.network_file.specs.declared.compiled.Compiled.{Compiled}
-use Rattle.network_file.specs.Answers.{IsListedPoint}
-use Rattle.answer_rows.specs.Answer.{IsAnswerOf}
+use Rattle.network_file.specs.Answers.{IsListedPoint, IsListedSpans}
+use Rattle.answer_rows.specs.Answer.{Answer, IsAnswerOf}
+use Rattle.answer_rows.specs.Answer.Answer.{point, range}
 use Rattle.answer_rows.specs.Printed.{AreRows, AreRowsFrom, PrintsAll, PrintsPart}
 use Rattle.answer_rows.specs.Printed.AreRowsFrom.{none, next}
 use Rattle.answer_rows.specs.Sent.{SendsQuery, SendsPartOfQuery, SendsQueries, SendsFirst}
 
-pub rows_of : (c : Compiled) (number : ℕ) (from to : Place) (depart limit : ℕ) (answer : PointAnswer) → IsQuery c.network (query.At from to depart limit)
+pub point_rows : (c : Compiled) (number : ℕ) (from to : Place) (depart limit : ℕ) (answer : PointAnswer) → IsQuery c.network (query.At from to depart limit)
     → answer ≡ record { from = from; to = to; depart = depart; found = answer.found }
     → IsListedPoint c from.node depart to.node limit answer.found
     → AreRows c.network (IsAnswerOf c) number (query.At from to depart limit) (records_text (point_records number c.network answer answer.found))
-rows_of c number from to depart limit answer asks asked is = (
-  answer.found,
-  record {
+point_rows c number from to depart limit answer asks asked is = record {
+  answer = point answer.found;
+  answers = record {
     listed = is;
     transfers = point_transfers c from.node to.node depart limit answer.found is;
     exact = λ right. point_exact c from.node to.node depart limit answer.found right asks.0 asks.1 is;
-  },
-  ap (λ (a : PointAnswer). records_text (point_records number c.network a answer.found)) asked,
-)
+  };
+  text_is = ap (λ (a : PointAnswer). records_text (point_records number c.network a answer.found)) asked;
+}
 
-rows_more : {n : Network} {IsAnswer : NodeNo → ℕ → NodeNo → ℕ → List Finding → Type 0} {number : ℕ} {queries : List Query} {text : List ℕ} (query : Query) (rows : List ℕ) (at : ℕ)
-    → AreRowsFrom n IsAnswer number queries text → at ≡ number + length queries → AreRows n IsAnswer at query rows
-    → AreRowsFrom n IsAnswer number (queries ++ query ∷ []) (text ++ rows)
-rows_more {n} {IsAnswer} {number} query rows at none e is =
+pub range_rows : (c : Compiled) (number : ℕ) (from to : Place) (first last limit : ℕ) (answer : RangeAnswer) → IsQuery c.network (query.Range from to first last limit)
+    → answer ≡ record { from = from; to = to; first = first; last = last; foot = answer.foot; spans = answer.spans }
+    → IsListedSpans c from.node to.node limit first last answer.foot answer.spans
+    → AreRows c.network (IsAnswerOf c) number (query.Range from to first last limit) (records_text (range_records number c.network answer))
+range_rows c number from to first last limit answer asks asked is = record {
+  answer = range answer.foot answer.spans;
+  answers = record {
+    listed = is;
+    transfers = range_transfers c from.node to.node limit first last answer.foot answer.spans is;
+    exact = λ right. range_exact c from.node to.node limit first last answer.foot answer.spans right asks.0 asks.1 is;
+  };
+  text_is = ap (λ (a : RangeAnswer). records_text (range_records number c.network a)) asked;
+}
+
+rows_more : {n : Network} {Answers : Query → Answer → Type 0} {number : ℕ} {queries : List Query} {text : List ℕ} (query : Query) (rows : List ℕ) (at : ℕ)
+    → AreRowsFrom n Answers number queries text → at ≡ number + length queries → AreRows n Answers at query rows
+    → AreRowsFrom n Answers number (queries ++ query ∷ []) (text ++ rows)
+rows_more {n} {Answers} {number} query rows at none e is =
     let same : at ≡ number = omega (arith, e) in
-    subst (λ (text : List ℕ). AreRowsFrom n IsAnswer number (query ∷ []) text) (append-nil rows)
-    (next rows [] (subst (λ (k : ℕ). AreRows n IsAnswer k query rows) same is) none)
-rows_more {n} {IsAnswer} {number} query rows at (next {query = first} {queries = queries} before rest one further) e is =
-    subst (λ (text : List ℕ). AreRowsFrom n IsAnswer number (first ∷ (queries ++ query ∷ [])) text) (sym (append_assoc before rest rows))
+    subst (λ (text : List ℕ). AreRowsFrom n Answers number (query ∷ []) text) (append-nil rows)
+    (next rows [] (subst (λ (k : ℕ). AreRows n Answers k query rows) same is) none)
+rows_more {n} {Answers} {number} query rows at (next {q = first} {queries = queries} before rest one further) e is =
+    subst (λ (text : List ℕ). AreRowsFrom n Answers number (first ∷ (queries ++ query ∷ [])) text) (sym (append_assoc before rest rows))
     (next before (rest ++ rows) one (rows_more query rows at further (omega (arith, e)) is))
 
 -- a prefix of what stands behind other bytes

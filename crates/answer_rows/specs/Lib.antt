@@ -1,4 +1,5 @@
 pub mod Answer
 pub mod Printed
-pub mod Searched
+pub mod Counted
+pub mod Room
 pub mod Sent

@@ -2,5 +2,4 @@ pub mod Numbers
 pub mod RowValues
 pub mod Files
 pub mod Sound
-pub mod AtQueries
 pub mod Outcome

@@ -13,10 +13,9 @@ use Rattle.refusals.specs.Refusal.{Accepted, IsFirstRefusal, first_cause}
 use Rattle.tables.specs.Table.{rows_of, row_at}
 use Rattle.query_table.specs.declared.columns.Columns.{Columns}
 use Rattle.query_table.specs.Rules.{column_rules, query_rules, query_of}
-use Rattle.query_table.specs.Queries.{IsAt, IsQuery, IsQueryTable, IsQueryRefusal, columns_in, queries_of}
+use Rattle.query_table.specs.Queries.{IsQuery, IsQueryTable, IsQueryRefusal, columns_in, queries_of}
 use Rattle.query_table.proofs.Files.{file_accepted, row_refused}
 use Rattle.query_table.proofs.Sound.{all_sound}
-use Rattle.query_table.proofs.AtQueries.{all_at}
 
 -- the header was read to these columns, and these are the rows
 pub record Opened (bytes : List ℕ) (columns : Columns) (rows : List (List (List ℕ))) : Type 0 where
@@ -51,7 +50,3 @@ few n bytes columns rows (Err e) o h = tt
 pub sound : (n : Network) (bytes : List ℕ) (r : Outcome) → All (Stands n) n.stops → OnOk r (IsQueryTable n bytes) → IfOk r (λ queries. queries ≡ queries_of n bytes) → IfOk r (All (IsQuery n))
 sound n bytes (Ok found) stand table is = rw is (all_sound n bytes stand table)
 sound n bytes (Err e) stand table is = tt
-
-pub at : (n : Network) (bytes : List ℕ) (r : Outcome) → OnOk r (IsQueryTable n bytes) → IfOk r (λ queries. queries ≡ queries_of n bytes) → IfOk r (All IsAt)
-at n bytes (Ok found) table is = rw is (all_at n bytes table)
-at n bytes (Err e) table is = tt

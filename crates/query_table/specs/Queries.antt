@@ -3,7 +3,6 @@
 --     IsQueryRefusal n bytes r       the first broken rule, with the file, its row and its cause
 --     queries_of n bytes             the queries of the rows, in their order
 --     IsQuery n q                    what a query that was read keeps
---     IsAt q                         the query asks for one departure second
 use Rattle.std.specs.Prelude.{◌≡◌, ℕ, ◌+◌, ◌-◌, ◌≤◌, List, [], ◌∷◌, ◌++◌, length, map, Option, Some, None, nat_le, if◌then◌else◌}
 use Rattle.move_model.specs.declared.network.Network.{Network}
 use Rattle.move_model.specs.declared.query.Query.{Query}
@@ -47,8 +46,3 @@ IsQuery n (query.At from to depart limit) =
     IsVertex (streets n) from.node × IsVertex (streets n) to.node × (depart ≤ 3599999) × (limit ≤ 16)
 IsQuery n (query.Range from to first last limit) =
     IsVertex (streets n) from.node × IsVertex (streets n) to.node × (first ≤ last) × (last ≤ 3599999) × (last - first + 1 ≤ 86400) × (limit ≤ 16)
-
--- no other query is read until ranges are answered
-abbrev pub IsAt : Query → Type 0
-IsAt (query.At from to depart limit) = Unit {0}
-IsAt (query.Range from to first last limit) = ⊥

@@ -41,7 +41,7 @@ is_range text = bytes_eq text (codes "range")
 
 -- kinds that are not answered yet
 unfoldable pub is_unbuilt : List ℕ → Bool
-is_unbuilt text = bytes_eq text (codes "range") || (bytes_eq text (codes "by") || bytes_eq text (codes "reach"))
+is_unbuilt text = bytes_eq text (codes "by") || bytes_eq text (codes "reach")
 
 -- kind is at, or range
 unfoldable pub kind_broken : List ℕ → Option Cause

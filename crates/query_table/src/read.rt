@@ -80,7 +80,6 @@ pub fn read_queries(alloc: Global, bytes: &[u8], network: &Network) -> Result<Qu
 
     // What the queries keep.
     ensures few { IfOk result (λ queries. length queries ≤ 100000) }
-    ensures at { IfOk result (All spec.IsAt) }
     ensures sound { All (Stands network.now) network.now.stops → IfOk result (All (spec.IsQuery network.now)) }
 {
     let Ok(table) = open_table(alloc, bytes) else {

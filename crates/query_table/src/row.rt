@@ -32,7 +32,7 @@ pub struct Values {
 fn is_unbuilt(text: &[u8]) -> bool
     ensures { result ≡ spec.is_unbuilt text.now }
 {
-    text == b"range".as_slice() || text == b"by".as_slice() || text == b"reach".as_slice()
+    text == b"by".as_slice() || text == b"reach".as_slice()
 }
 
 // Whether the kind is a range.

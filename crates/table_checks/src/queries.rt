@@ -99,6 +99,11 @@ fn accepts(rt: HostRuntime) -> Result<(), Fail> {
             b"kind,from,to,first,last,trips,kind,trips\nat,stop:A,stop:D,08:00:00,,3,walk,17\n",
             1,
         ),
+        // A window of one second, and the longest.
+        (
+            b"kind,from,to,first,last,trips\nrange,stop:A,stop:D,08:00:00,08:00:00,3\nrange,stop:A,stop:D,08:00:00,31:59:59,3\n",
+            2,
+        ),
         // The last second of a query at one second is not read.
         (
             b"kind,from,to,first,last,trips\nat,stop:A,stop:D,08:00:00,never,3\n",
@@ -132,11 +137,6 @@ fn refuses(rt: HostRuntime) -> Result<(), Fail> {
             Cause::Kind,
         ),
         (b"kind,from,to,first,last,trips\n,,,,,\n", 1, Cause::Kind),
-        (
-            b"kind,from,to,first,last,trips\nrange,stop:A,stop:D,08:00:00,09:00:00,3\n",
-            1,
-            Cause::Unbuilt,
-        ),
         (
             b"kind,from,to,first,last,trips\nby,stop:A,stop:D,08:00:00,,3\n",
             1,
@@ -221,6 +221,27 @@ fn refuses(rt: HostRuntime) -> Result<(), Fail> {
             b"kind,from,to,first,last,trips\nat,stop:A,stop:D,08:00:00,,000000000000000000016\n",
             1,
             Cause::Number,
+        ),
+        // A window that ends before it begins, one that is too long, and one without an end.
+        (
+            b"kind,from,to,first,last,trips\nrange,stop:A,stop:D,08:00:00,07:59:59,3\n",
+            1,
+            Cause::Window(0),
+        ),
+        (
+            b"kind,from,to,first,last,trips\nrange,stop:A,stop:D,08:00:00,32:00:00,17\n",
+            1,
+            Cause::Window(86_401),
+        ),
+        (
+            b"kind,from,to,first,last,trips\nrange,stop:A,stop:D,08:00:00,,3\n",
+            1,
+            Cause::Time,
+        ),
+        (
+            b"kind,from,to,first,last,trips\nrange,stop:A,stop:E,08:00:00,07:00:00,3\n",
+            1,
+            Cause::UnknownStop,
         ),
         // Of two rows with faults the first is named, and of two columns with one name the first counts.
         (

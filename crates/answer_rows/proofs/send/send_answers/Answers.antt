@@ -1,19 +1,22 @@
-use Rattle.std.proofs.Common.{◌≡◌, ◌∙◌, ◌+◌, [], length, refl, sym, subst, arith, append-nil}
+use Rattle.std.proofs.Common.{◌≡◌, ◌+◌, [], refl, sym, subst, arith, append-nil}
 use Rattle.std.proofs.lemmas.Result.{err_from_is_err_and}
-use Rattle.query_table.specs.Queries.{IsAt, IsQuery}
-use Rattle.answer_rows.specs.Answer.{ArePairsOf}
+use Rattle.query_table.specs.Queries.{IsQuery}
+use Rattle.answer_rows.specs.Counted.{IsSearchedFor, IsOpenedFor}
+use Rattle.answer_rows.specs.Counted.CountsEach.{none as no_query}
 use Rattle.answer_rows.specs.Printed.AreRowsFrom.{none as no_rows}
-use Rattle.answer_rows.specs.Searched.AreSearchedBy.{none as no_searches}
+use Rattle.answer_rows.specs.Room.{HasRoom}
 use Rattle.answer_rows.proofs.SentLemmas.{one_more, part_more}
-use Rattle.answer_rows.proofs.SearchLemmas.{one_searched, one_opened, all_opened}
+use Rattle.answer_rows.proofs.CountLemmas.{one_counted}
 use Rattle.answer_rows.proofs.send.send_answers.Goals as goal
-
-pub send_answer-requires-clause-at : goal.send_answer-requires-clause-at
-send_answer-requires-clause-at g c = subst IsAt (sym c.query-item.is) (c.requires.at c.loop-query.query-index c.query-item.result c.loop-query-test.true)
 
 pub send_answer-requires-clause-query : goal.send_answer-requires-clause-query
 send_answer-requires-clause-query g c =
     subst (IsQuery c.args.compiled.now.network) (sym c.query-item.is) (c.requires.queries c.loop-query.query-index c.query-item.result c.loop-query-test.true)
+
+pub send_answer-requires-clause-room : goal.send_answer-requires-clause-room
+send_answer-requires-clause-room g c =
+    c.loop-query.invariant.room c.query-item.result
+    (subst (HasRoom c.args.compiled.now c.args.works.now) (sym c.query-item.is) (c.requires.room c.loop-query.query-index c.query-item.result c.loop-query-test.true))
 
 pub loop-query-init : goal.loop-query-init
 loop-query-init g c = record {
@@ -21,9 +24,9 @@ loop-query-init g c = record {
   sent = λ tells. ([], no_rows, sym (append-nil _));
   faults = omega arith;
   wants = omega arith;
-  room = refl;
-  searches = no_searches (omega arith);
-  opens = omega arith;
+  room = λ q is. is;
+  searches = no_query;
+  opens = no_query;
 }
 
 pub loop-query-preserved : goal.loop-query-preserved
@@ -39,9 +42,9 @@ loop-query-preserved g c =
           one_more v c.args.queries.now i (c.loop-query.number + 1) c.query-item.result _ _ _ c.loop-query-test.true c.query-item.is at_number (so_far.sent tells) (one.ok tells);
       faults = omega (arith, so_far.faults, c.send_answer.ensures.counts);
       wants = omega (arith, so_far.wants, c.send_answer.ensures.counts);
-      room = c.send_answer.ensures.room ∙ so_far.room;
-      searches = one_searched (ArePairsOf v) c.args.queries.now i c.query-item.result _ _ _ c.loop-query-test.true c.query-item.is so_far.searches c.send_answer.ensures.searches;
-      opens = one_opened c.args.queries.now (length v.table.routes) i c.query-item.result _ _ _ c.loop-query-test.true c.query-item.is so_far.opens c.send_answer.ensures.opens;
+      room = λ q is. c.send_answer.ensures.room q (so_far.room q is);
+      searches = one_counted (IsSearchedFor v) c.args.queries.now i c.query-item.result _ _ _ c.loop-query-test.true c.query-item.is so_far.searches c.send_answer.ensures.searches;
+      opens = one_counted (IsOpenedFor v) c.args.queries.now i c.query-item.result _ _ _ c.loop-query-test.true c.query-item.is so_far.opens c.send_answer.ensures.opens;
     }
 
 pub returns-in_err-send_answer-clause-err : goal.returns-in_err-send_answer-clause-err
@@ -55,12 +58,13 @@ returns-in_err-send_answer-clause-err g c = λ tells.
 pub returns-in_err-send_answer-clause-searches : goal.returns-in_err-send_answer-clause-searches
 returns-in_err-send_answer-clause-searches g c = (
   c.loop-query.query-index + 1,
-  one_searched (ArePairsOf c.args.compiled.now) c.args.queries.now c.loop-query.query-index c.query-item.result _ _ _ c.loop-query-test.true c.query-item.is
+  one_counted (IsSearchedFor c.args.compiled.now) c.args.queries.now c.loop-query.query-index c.query-item.result _ _ _ c.loop-query-test.true c.query-item.is
       c.loop-query.invariant.searches c.send_answer.ensures.searches,
 )
 
 pub returns-in_err-send_answer-clause-opens : goal.returns-in_err-send_answer-clause-opens
-returns-in_err-send_answer-clause-opens g c =
-    let routes = length c.args.compiled.now.table.routes in
-    all_opened c.args.queries.now routes (c.loop-query.query-index + 1) _ _
-    (one_opened c.args.queries.now routes c.loop-query.query-index c.query-item.result _ _ _ c.loop-query-test.true c.query-item.is c.loop-query.invariant.opens c.send_answer.ensures.opens)
+returns-in_err-send_answer-clause-opens g c = (
+  c.loop-query.query-index + 1,
+  one_counted (IsOpenedFor c.args.compiled.now) c.args.queries.now c.loop-query.query-index c.query-item.result _ _ _ c.loop-query-test.true c.query-item.is
+      c.loop-query.invariant.opens c.send_answer.ensures.opens,
+)

@@ -45,6 +45,3 @@ returns-clause-few c = outcome.few c.args.network.now _ _ _ c.read_rows.result (
 
 pub returns-clause-sound : goal.returns-clause-sound
 returns-clause-sound c = λ stand. outcome.sound c.args.network.now c.args.bytes.now c.read_rows.result stand (returns-clause-accepted c) (returns-clause-queries c)
-
-pub returns-clause-at : goal.returns-clause-at
-returns-clause-at c = outcome.at c.args.network.now c.args.bytes.now c.read_rows.result (returns-clause-accepted c) (returns-clause-queries c)
