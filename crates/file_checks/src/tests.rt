@@ -1,15 +1,14 @@
 // What is read and written, and what altered files are answered by.
-ghost use Rattle.std.specs.Prelude.{◌≡◌, ◌≤◌, length};
 ghost use Rattle.network_codec.specs.Rules.{IsWritable};
 ghost use Rattle.network_codec.specs.declared.version.Version.TheVariants as version;
 
+use crate::altered::{altered, with_digest};
 use crate::files::{ROW, SMALLEST_ONE, SMALLEST_TWO};
 use move_files::{SafeFiles, read_whole};
 use network_codec::{Damage, DecodeStop, encode, encode_one};
 use network_decode::decode;
 use network_file::Compiled;
-use sha2::{Digest, Sha256};
-use std::alloc::{AllocError, Global};
+use std::alloc::Global;
 use std::process::Abort;
 use std::test::Fail;
 
@@ -100,25 +99,6 @@ fn stop_of(alloc: Global, file: &[u8]) -> Option<DecodeStop> {
 
 fn is_damaged(rt: &impl Abort, alloc: Global, file: &[u8], damage: Damage) {
     assert_eq!(rt; stop_of(alloc, file), Some(DecodeStop::Damaged(damage)));
-}
-
-// The file with another byte at a place.
-fn altered(alloc: Global, file: &[u8], place: usize, byte: u8) -> Result<Vec<u8>, AllocError> {
-    let mut bytes = Vec::from_slice(alloc, file)?;
-    if place < bytes.len() {
-        bytes[place] = byte;
-    }
-    Ok(bytes)
-}
-
-// The file with the digest of its body.
-fn with_digest(alloc: Global, file: &[u8]) -> Result<Vec<u8>, AllocError>
-    requires { 52 ≤ length file.now }
-{
-    let mut bytes = Vec::from_slice(alloc, &file[..20])?;
-    bytes.extend_from_slice(&Sha256::digest(&file[52..]))?;
-    bytes.extend_from_slice(&file[52..])?;
-    Ok(bytes)
 }
 
 #[test]

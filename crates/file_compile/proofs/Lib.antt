@@ -1,0 +1,2 @@
+mod StorableLemmas
+mod FileLemmas
