@@ -1,5 +1,5 @@
 -- An answer has few pairs or spans, whose arrivals are not too late to be added up.
-use Rattle.std.proofs.Common.{◌≡◌, ℕ, zero, suc, ◌+◌, ◌-◌, ◌*◌, ◌<◌, ◌≤◌, ◌^◌, List, [], ◌∷◌, map, length, get_or, refl, subst, inl, inr, arith}
+use Rattle.std.proofs.Common.{◌≡◌, ℕ, zero, suc, ◌+◌, ◌-◌, ◌*◌, ◌<◌, ◌≤◌, ◌^◌, List, [], ◌∷◌, map, length, get_or, refl, sym, ◌∙◌, subst, inl, inr, arith, Option}
 use Rattle.std.specs.Prelude.{All, sum_by}
 use Rattle.std.specs.List.{AllAdjacentBelow}
 use Rattle.std.proofs.lemmas.List.{length-map}
@@ -10,11 +10,14 @@ use Rattle.move_model.specs.declared.network.NodeNo.{NodeNo}
 use Rattle.move_model.specs.declared.journey.Finding.{Finding}
 use Rattle.move_model.specs.declared.journey.Pair.{Pair}
 use Rattle.move_model.specs.declared.journey.Span.{Span}
+use Rattle.move_model.specs.declared.journey.SpanFinding.{SpanFinding}
 use Rattle.move_model.specs.declared.journey.Profile.{Profile}
 use Rattle.move_model.specs.Journey.{IsBest, IsParetoList}
 use Rattle.move_model.specs.Shortcut.{IsLess}
 use Rattle.move_model.specs.Check.{KeepsRules}
 use Rattle.move_model.specs.Range.{pair_of, IsRange}
+use Rattle.move_model.specs.Found.{span_of}
+use Rattle.city_summary.specs.Summary.{HasSpans}
 use Rattle.city_summary.proofs.Arrivals.{best_arrives}
 
 -- numbers that rise from item to item are at least the items' places
@@ -55,7 +58,7 @@ pairs_small n s d t limit pairs rules day limited is =
     best : (k : ℕ) (x : Pair) → k < length pairs → IsBest n s d t limit (get_or pairs k x)
     best k x h = (is.exact (get_or pairs k x)).0 (Contains-get_or pairs k x h)
 
-sum_by-map : {X Y : Type 0} (f : Y → ℕ) (g : X → Y) (xs : List X) → sum_by f (map g xs) ≡ sum_by (λ x. f (g x)) xs
+pub sum_by-map : {X Y : Type 0} (f : Y → ℕ) (g : X → Y) (xs : List X) → sum_by f (map g xs) ≡ sum_by (λ x. f (g x)) xs
 sum_by-map f g [] = refl
 sum_by-map f g (x ∷ xs) = omega (arith, sum_by-cons f (g x) (map g xs), sum_by-cons (λ x. f (g x)) x xs, sum_by-map f g xs)
 
@@ -105,3 +108,23 @@ spans_small n s t limit first last profile rules day short limited is =
         by f g u v low few (inl lt) = omega (arith, lt)
         by f g u v low few (inr (same, inl lt)) = omega (arith, same, lt)
         by f g u v low few (inr (same, inr (level, none))) = absurd none
+
+pub found_spans_small : (n : Network) (s t : NodeNo) (limit first last : ℕ) (foot : Option ℕ) (spans : List SpanFinding) → KeepsRules n → last ≤ 3599999
+    → last - first + 1 ≤ 1800 → limit ≤ 16 → IsRange n s t limit first last (record { foot = foot; spans = map span_of spans })
+    → IsSmall (λ (found : SpanFinding). found.finding.pair.arrive) spans
+found_spans_small n s t limit first last foot spans rules day short limited is =
+    let small = spans_small n s t limit first last (record { foot = foot; spans = map span_of spans }) rules day short limited is in
+    record {
+      few = omega (arith, small.few, length-map spans span_of);
+      total = omega (arith, small.total, sum_by-map (λ (span : Span). span.arrive) span_of spans);
+    }
+
+pub spans_counted : (spans : List SpanFinding) (many arrivals : ℕ) → many ≡ length spans
+    → arrivals ≡ sum_by (λ (found : SpanFinding). found.finding.pair.arrive) spans
+    → HasSpans (map span_of spans) (record { pairs = 0; spans = many; arrivals = arrivals })
+spans_counted spans many arrivals as_many as_late =
+    record {
+      no_pairs = refl;
+      spans_are = as_many ∙ sym (length-map spans span_of);
+      arrivals = as_late ∙ sym (sum_by-map (λ (span : Span). span.arrive) span_of spans);
+    }

@@ -1,3 +1,5 @@
 pub mod Arrivals
 pub mod Bounds
 pub mod Sums
+pub mod CountLaws
+pub mod Rooms

@@ -1,3 +1,4 @@
 pub mod Summary
 pub mod Few
 pub mod Text
+pub mod Room

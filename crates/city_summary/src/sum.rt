@@ -1,18 +1,27 @@
 // The sums over answers.
-ghost use Rattle.std.specs.Prelude.{◌≡◌, ◌+◌, ◌*◌, ◌-◌, ◌<◌, ◌≤◌, ◌^◌, All, IfOk, OnOk, length, sum_by};
-ghost use Rattle.move_model.specs.Check.{KeepsRules};
-ghost use Rattle.move_model.specs.Network as net;
+ghost use Rattle.std.specs.Prelude.{◌≡◌, ◌+◌, ◌*◌, ◌-◌, ◌<◌, ◌≤◌, ◌^◌, ℕ, All, IfOk, OnOk, length, sum_by};
 ghost use Rattle.move_model.specs.declared.query.Query.TheVariants as query;
 ghost use Rattle.move_model.specs.declared.journey.Finding.{Finding as FindingValue};
-ghost use Rattle.move_model.specs.declared.journey.Span.{Span as SpanValue};
+ghost use Rattle.move_model.specs.declared.journey.SpanFinding.{SpanFinding as SpanFindingValue};
+ghost use Rattle.network_file.specs.Compiled.{IsRight};
+ghost use Rattle.network_answers.specs.Point as point;
+ghost use Rattle.range_answers.specs.Range as range;
 ghost use Rattle.city_maker.specs.Asked.{IsAsked};
 ghost use Rattle.city_summary.specs.Summary.{HasCounts, HasSums, AreTotals};
 ghost use Rattle.city_summary.specs.Few.{IsFew};
+ghost use Rattle.answer_rows.specs.Counted.{IsSearchedOver, IsOpenedOver, CountsFirst};
+ghost use Rattle.city_summary.specs.Room.{HasRoom, limit_of};
 
-use crate::answers::Answers;
+use crate::found::{find_point, find_range};
 use crate::totals::{Counts, Totals};
-use move_model::{Finding, Network, NoMemory, Place, Queries, Query, Span};
+use crate::works::{Works, greatest_limit};
+use move_model::{Finding, NoMemory, Place, Queries, Query, SpanFinding};
+use network_answers::AnswerWork;
+use network_file::Compiled;
+use range_answers::RangeWork;
 use std::alloc::Global;
+use std::sync::ledger::Ledger;
+use steps::Steps;
 
 // The sum of the arrivals of pairs.
 fn arrivals_of_pairs(found: &[Finding]) -> u64
@@ -23,30 +32,37 @@ fn arrivals_of_pairs(found: &[Finding]) -> u64
 }
 
 // The sum of the arrivals of spans.
-fn arrivals_of_spans(spans: &[Span]) -> u64
-    requires { sum_by (λ (span : SpanValue). span.arrive) spans.now < 2 ^ 64 }
-    ensures { result ≡ sum_by (λ (span : SpanValue). span.arrive) spans.now }
+fn arrivals_of_spans(spans: &[SpanFinding]) -> u64
+    requires { sum_by (λ (span : SpanFindingValue). span.finding.pair.arrive) spans.now < 2 ^ 64 }
+    ensures { result ≡ sum_by (λ (span : SpanFindingValue). span.finding.pair.arrive) spans.now }
 {
-    spans.iter().map(|span| span.arrive).sum()
+    spans.iter().map(|span| span.finding.pair.arrive).sum()
 }
 
 // What the answer to a query at a second comes to.
-fn counts_of_point<A: Answers>(
+fn counts_of_point<L: Ledger, M: Ledger>(
     alloc: Global,
-    answers: &mut A,
+    compiled: &Compiled,
+    work: &mut AnswerWork,
     from: &Place,
     to: &Place,
     depart: u32,
     limit: u8,
+    searches: &mut Steps<L>,
+    opens: &mut Steps<M>,
 ) -> Result<Counts, NoMemory>
-    requires rules { KeepsRules (A.network answers.old) }
-    requires numbered { net.IsNumbered (A.network answers.old) }
-    requires asked { IsAsked (A.network answers.old) (query.At from.now to.now depart limit) }
-    ensures counts { IfOk result (HasCounts (A.network answers.old) (query.At from.now to.now depart limit)) }
+    requires right { IsRight compiled.now }
+    requires asked { IsAsked compiled.now.network (query.At from.now to.now depart limit) }
+    requires room { point.IsRoomFor compiled.now limit work.old }
+    ensures counts { IfOk result (HasCounts compiled.now.network (query.At from.now to.now depart limit)) }
     ensures few { IfOk result IsFew }
-    ensures same { A.network answers.new ≡ A.network answers.old }
+    ensures room { work.new ≡ work.old }
+    ensures searches { IsSearchedOver compiled.now.network (query.At from.now to.now depart limit) searches.old searches.new }
+    ensures opens { IsOpenedOver compiled.now.network (length compiled.now.table.routes) (query.At from.now to.now depart limit) opens.old opens.new }
 {
-    let found = answers.point(alloc, from.node, to.node, depart, limit)?;
+    let found = find_point(
+        alloc, compiled, work, from, to, depart, limit, searches, opens,
+    )?;
     Ok(Counts {
         pairs: found.len() as u64,
         spans: 0,
@@ -55,24 +71,31 @@ fn counts_of_point<A: Answers>(
 }
 
 // What the answer to a range comes to.
-fn counts_of_range<A: Answers>(
+fn counts_of_range<'a, L: Ledger, M: Ledger>(
     alloc: Global,
-    answers: &mut A,
+    compiled: &'a Compiled,
+    work: &mut RangeWork<'a>,
     from: &Place,
     to: &Place,
     first: u32,
     last: u32,
     limit: u8,
+    searches: &mut Steps<L>,
+    opens: &mut Steps<M>,
 ) -> Result<Counts, NoMemory>
-    requires rules { KeepsRules (A.network answers.old) }
-    requires numbered { net.IsNumbered (A.network answers.old) }
-    requires asked { IsAsked (A.network answers.old) (query.Range from.now to.now first last limit) }
-    ensures counts { IfOk result (HasCounts (A.network answers.old) (query.Range from.now to.now first last limit)) }
+    requires right { IsRight compiled.now }
+    requires asked { IsAsked compiled.now.network (query.Range from.now to.now first last limit) }
+    requires room { range.IsRoomFor compiled.now limit work.old }
+    ensures counts { IfOk result (HasCounts compiled.now.network (query.Range from.now to.now first last limit)) }
     ensures few { IfOk result IsFew }
-    ensures same { A.network answers.new ≡ A.network answers.old }
+    ensures room { (most : ℕ) → range.IsRoomFor compiled.now most work.old → range.IsRoomFor compiled.now most work.new }
+    ensures searches { IsSearchedOver compiled.now.network (query.Range from.now to.now first last limit) searches.old searches.new }
+    ensures opens { IsOpenedOver compiled.now.network (length compiled.now.table.routes) (query.Range from.now to.now first last limit) opens.old opens.new }
 {
-    let profile = answers.range(alloc, from.node, to.node, first, last, limit)?;
-    let spans = profile.spans.as_slice();
+    let found = find_range(
+        alloc, compiled, work, from, to, first, last, limit, searches, opens,
+    )?;
+    let spans = found.spans.as_slice();
     Ok(Counts {
         pairs: 0,
         spans: spans.len() as u64,
@@ -81,13 +104,22 @@ fn counts_of_range<A: Answers>(
 }
 
 // What the answer to a query comes to.
-fn counts_of<A: Answers>(alloc: Global, answers: &mut A, query: &Query) -> Result<Counts, NoMemory>
-    requires rules { KeepsRules (A.network answers.old) }
-    requires numbered { net.IsNumbered (A.network answers.old) }
-    requires asked { IsAsked (A.network answers.old) query.now }
-    ensures counts { IfOk result (HasCounts (A.network answers.old) query.now) }
+fn counts_of<'a, L: Ledger, M: Ledger>(
+    alloc: Global,
+    compiled: &'a Compiled,
+    works: &mut Works<'a>,
+    query: &Query,
+    searches: &mut Steps<L>,
+    opens: &mut Steps<M>,
+) -> Result<Counts, NoMemory>
+    requires right { IsRight compiled.now }
+    requires asked { IsAsked compiled.now.network query.now }
+    requires room { HasRoom compiled.now (limit_of query.now) works.old }
+    ensures counts { IfOk result (HasCounts compiled.now.network query.now) }
     ensures few { IfOk result IsFew }
-    ensures same { A.network answers.new ≡ A.network answers.old }
+    ensures room { (most : ℕ) → HasRoom compiled.now most works.old → HasRoom compiled.now most works.new }
+    ensures searches { IsSearchedOver compiled.now.network query.now searches.old searches.new }
+    ensures opens { IsOpenedOver compiled.now.network (length compiled.now.table.routes) query.now opens.old opens.new }
 {
     match query {
         Query::At {
@@ -95,61 +127,107 @@ fn counts_of<A: Answers>(alloc: Global, answers: &mut A, query: &Query) -> Resul
             to,
             depart,
             limit,
-        } => counts_of_point(alloc, answers, from, to, *depart, *limit),
+        } => counts_of_point(
+            alloc,
+            compiled,
+            &mut works.points,
+            from,
+            to,
+            *depart,
+            *limit,
+            searches,
+            opens,
+        ),
         Query::Range {
             from,
             to,
             first,
             last,
             limit,
-        } => counts_of_range(alloc, answers, from, to, *first, *last, *limit),
+        } => counts_of_range(
+            alloc,
+            compiled,
+            &mut works.ranges,
+            from,
+            to,
+            *first,
+            *last,
+            *limit,
+            searches,
+            opens,
+        ),
     }
 }
 
 // What the answers to queries come to.
-fn counts_of_all<A: Answers>(
+fn counts_of_all<'a, L: Ledger, M: Ledger>(
     alloc: Global,
-    answers: &mut A,
+    compiled: &'a Compiled,
+    works: &mut Works<'a>,
     queries: &[Query],
+    searches: &mut Steps<L>,
+    opens: &mut Steps<M>,
 ) -> Result<Counts, NoMemory>
+    requires right { IsRight compiled.now }
     requires few { length queries.now ≤ 20 }
-    requires rules { KeepsRules (A.network answers.old) }
-    requires numbered { net.IsNumbered (A.network answers.old) }
-    requires asked { All (IsAsked (A.network answers.old)) queries.now }
-    ensures sums { IfOk result (HasSums (A.network answers.old) queries.now) }
-    ensures same { A.network answers.new ≡ A.network answers.old }
+    requires asked { All (IsAsked compiled.now.network) queries.now }
+    requires room { All (λ query. HasRoom compiled.now (limit_of query) works.old) queries.now }
+    ensures sums { IfOk result (HasSums compiled.now.network queries.now) }
+    ensures searches { CountsFirst (IsSearchedOver compiled.now.network) queries.now searches.old searches.new }
+    ensures opens { CountsFirst (IsOpenedOver compiled.now.network (length compiled.now.table.routes)) queries.now opens.old opens.new }
 {
     let mut sums = Counts::none();
     for query in queries {
-        sums = sums.plus(counts_of(alloc, answers, query)?);
+        sums = sums.plus(counts_of(alloc, compiled, works, query, searches, opens)?);
     }
     Ok(sums)
 }
 
-/// What the answers to queries over a network come to.
-pub fn summary<A: Answers>(
-    alloc: Global,
-    network: &Network,
-    queries: &Queries,
-    answers: &mut A,
-) -> Result<Totals, NoMemory>
-    requires few { length queries.now ≤ 20 }
-    requires same { A.network answers.old ≡ network.now }
-    requires rules { KeepsRules network.now }
-    requires numbered { net.IsNumbered network.now }
-    requires asked { All (IsAsked network.now) queries.now }
-    ensures totals { IfOk result (AreTotals network.now queries.now) }
-    ensures same { A.network answers.new ≡ A.network answers.old }
+// The size of a network, with what the answers to queries come to.
+fn totals_of(compiled: &Compiled, queries: &[Query], sums: Counts) -> Totals
+    requires right { IsRight compiled.now }
+    requires sums { HasSums compiled.now.network queries.now sums }
+    ensures { AreTotals compiled.now.network queries.now result }
 {
-    let sums = counts_of_all(alloc, answers, queries.as_slice())?;
-    Ok(Totals {
+    let network = &compiled.network;
+    Totals {
         vertices: u64::from(network.nodes),
         arcs: network.arcs.len() as u64,
         stops: network.stops.len() as u64,
         trips: network.trips.len() as u64,
+        shortcuts: compiled.shortcuts.len() as u64,
         queries: queries.len() as u64,
         pairs: sums.pairs,
         spans: sums.spans,
         arrivals: sums.arrivals,
-    })
+    }
+}
+
+/// What the answers to queries over a compiled network come to. The memory for the searches of all queries is taken before
+/// the first. `searches` counts searches in the streets, `opens` counts routes that rounds open.
+pub fn summary<L: Ledger, M: Ledger>(
+    alloc: Global,
+    compiled: &Compiled,
+    queries: &Queries,
+    searches: &mut Steps<L>,
+    opens: &mut Steps<M>,
+) -> Result<Totals, NoMemory>
+    // The value is right for its network, and there are twenty queries at most, whose windows are half an hour at most.
+    requires right { IsRight compiled.now }
+    requires few { length queries.now ≤ 20 }
+    requires asked { All (IsAsked compiled.now.network) queries.now }
+
+    // The totals are of the exact answers: the Pareto sets of the queries at a second, and at every second of a range.
+    ensures totals { IfOk result (AreTotals compiled.now.network queries.now) }
+
+    // Each query that was begun makes three searches, and at most one for each walk of the journeys of its answer. Each round
+    // opens each route at most once, for a range once for eight departures.
+    ensures searches { CountsFirst (IsSearchedOver compiled.now.network) queries.now searches.old searches.new }
+    ensures opens { CountsFirst (IsOpenedOver compiled.now.network (length compiled.now.table.routes)) queries.now opens.old opens.new }
+{
+    let queries = queries.as_slice();
+    let limit = greatest_limit(queries);
+    let mut works = Works::new(alloc, compiled, limit)?;
+    let sums = counts_of_all(alloc, compiled, &mut works, queries, searches, opens)?;
+    Ok(totals_of(compiled, queries, sums))
 }

@@ -29,6 +29,7 @@ pub fn summary_text(alloc: Global, totals: &Totals) -> Result<Vec<u8>, NoMemory>
     put_line(&mut text, b"arcs", totals.arcs)?;
     put_line(&mut text, b"stops", totals.stops)?;
     put_line(&mut text, b"trips", totals.trips)?;
+    put_line(&mut text, b"shortcuts", totals.shortcuts)?;
     put_line(&mut text, b"queries", totals.queries)?;
     put_line(&mut text, b"pairs", totals.pairs)?;
     put_line(&mut text, b"spans", totals.spans)?;

@@ -9,14 +9,16 @@ pub struct Counts {
     pub arrivals: u64,
 }
 
-/// How large a network is, how many queries there are, and what their answers come to: how many pairs the queries at a
-/// second have, how many spans the ranges, and the sum of the arrivals of these pairs and spans in seconds.
+/// How large a network is, how many shortcuts it has, how many queries there are, and what their answers come to: how many
+/// pairs the queries at a second have, how many spans the ranges, and the sum of the arrivals of these pairs and spans in
+/// seconds.
 #[derive(Clone, Copy, Debug, PartialEq, Eq)]
 pub struct Totals {
     pub vertices: u64,
     pub arcs: u64,
     pub stops: u64,
     pub trips: u64,
+    pub shortcuts: u64,
     pub queries: u64,
     pub pairs: u64,
     pub spans: u64,
