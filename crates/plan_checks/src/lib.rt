@@ -7,9 +7,13 @@
 #[cfg(test)]
 mod cases;
 #[cfg(test)]
+mod cities;
+#[cfg(test)]
 mod faults;
 #[cfg(test)]
 mod given;
+#[cfg(test)]
+mod ranges;
 #[cfg(test)]
 mod rows;
 #[cfg(test)]

@@ -94,8 +94,8 @@ fn expect_on_disk<R: Abort + Alloc + SystemFiles>(
     Ok(())
 }
 
-// Sees that a case gives its rows over files in memory.
-fn expect_in_memory<R: Abort>(rt: &R, alloc: Global, case: &Case) -> Result<(), Fail> {
+/// Sees that a case gives its rows over files in memory.
+pub fn expect_in_memory<R: Abort>(rt: &R, alloc: Global, case: &Case) -> Result<(), Fail> {
     let (words, files, query, rows) = *case;
     let mut held = MemFiles::new(alloc);
     put_all(alloc, "", &mut held, files, query)?;

@@ -9,7 +9,7 @@ use top_call::Status;
 /// Words, a file in place of the sample's, and the line.
 type Wrong = (&'static str, &'static str, &'static [u8], &'static [u8]);
 
-const WRONG: [Wrong; 19] = [
+const WRONG: [Wrong; 22] = [
     ("plan base", "", b"", USAGE),
     ("plan base base.gr - 20250230 1000 q.csv", "", b"", USAGE),
     (
@@ -91,6 +91,24 @@ const WRONG: [Wrong; 19] = [
         b"refused: QUERIES row 3: unknown stop\n",
     ),
     (
+        PLAN,
+        "q.csv",
+        b"kind,from,to,first,last,trips\nrange,node:1,node:4,00:00:00,24:00:00,2\n",
+        b"refused: QUERIES row 1: window 86401\n",
+    ),
+    (
+        PLAN,
+        "q.csv",
+        b"kind,from,to,first,last,trips\nrange,node:1,node:4,08:00:00,07:59:59,2\n",
+        b"refused: QUERIES row 1: window 0\n",
+    ),
+    (
+        PLAN,
+        "q.csv",
+        b"kind,from,to,first,last,trips\nby,node:1,node:4,08:00:00,,2\n",
+        b"refused: QUERIES row 1: unbuilt\n",
+    ),
+    (
         "plan base base.gr - 20250303 1000 q.csv 3601",
         "",
         b"",
@@ -141,12 +159,11 @@ fn tells_what_is_wrong(rt: HostRuntime) -> Result<(), Fail> {
 }
 
 // The commands that are not built.
-const UNBUILT: [&str; 5] = [
+const UNBUILT: [&str; 4] = [
     "compile base base.gr - 20250303 1000 base.net",
     "answer base.net q.csv",
     "migrate base.net new.net",
     "audit base.net",
-    "city 40 12 7",
 ];
 
 #[test]

@@ -1,26 +1,22 @@
 -- The rows and the counts of a right value are those of its network.
-use Rattle.std.proofs.Common.{ℕ, ◌+◌, ◌*◌, ◌≤◌, List, length, map, refl, sym, subst, inl, inr}
-use Rattle.std.specs.Prelude.{sum_by}
+use Rattle.std.proofs.Common.{ℕ, List, length, map, refl, sym, subst, inl, inr}
 use Rattle.std.proofs.lemmas.List.{length-map}
 use Rattle.move_model.specs.declared.network.Network.{Network}
-use Rattle.move_model.specs.declared.network.NodeNo.{NodeNo}
-use Rattle.move_model.specs.declared.journey.Finding.{Finding}
 use Rattle.move_model.specs.declared.query.Query.{Query}
-use Rattle.move_model.specs.Journey.{IsParetoList}
 use Rattle.route_split.specs.Route.{Route}
 use Rattle.network_file.specs.declared.compiled.Compiled.{Compiled}
 use Rattle.network_file.specs.Compiled.{IsRight}
-use Rattle.answer_rows.specs.Answer.{IsAnswerOf, ArePairsOf}
+use Rattle.answer_rows.specs.Answer.{Answer, IsAnswerOf}
+use Rattle.answer_rows.specs.Counted.{CountsFirst, IsSearchedOver, IsSearchedFor, IsOpenedOver, IsOpenedFor}
 use Rattle.answer_rows.specs.Printed.{PrintsAll, PrintsPart}
-use Rattle.answer_rows.specs.Searched.{SearchesFirst, limit_of}
-use Rattle.answer_rows.proofs.WeakerLaws.{PrintsAll-weaker, PrintsPart-weaker, SearchesFirst-weaker}
+use Rattle.answer_rows.proofs.WeakerLaws.{PrintsAll-weaker, PrintsPart-weaker, CountsFirst-weaker}
 use Rattle.top_call.specs.declared.status.Status.TheVariants as status
 use Rattle.top_call.specs.Answered.{IsAnswerByShortcuts, SearchesFor, OpensFor}
 use Rattle.top_call.specs.Status.{IsThisInput, SendsPart, Sends}
 
 module _ (c : Compiled) (queries : List Query) (right : IsRight c) where
-  by_shortcuts : (s : NodeNo) (d : ℕ) (t : NodeNo) (limit : ℕ) (found : List Finding) → IsAnswerOf c s d t limit found → IsAnswerByShortcuts c.network s d t limit found
-  by_shortcuts s d t limit found is = record { exact = is.exact right; list = c.shortcuts; shortcuts = right.shortcuts; transfers = is.transfers }
+  by_shortcuts : (q : Query) (answer : Answer) → IsAnswerOf c q answer → IsAnswerByShortcuts c.network q answer
+  by_shortcuts q answer is = record { exact = is.exact right; list = c.shortcuts; shortcuts = right.shortcuts; transfers = is.transfers }
 
   part : (old new : List ℕ) → PrintsPart c.network (IsAnswerOf c) queries old new → SendsPart (IsThisInput c.network queries) old new
   part old new is = (c.network, queries, (refl, refl), PrintsPart-weaker c.network (IsAnswerOf c) (IsAnswerByShortcuts c.network) by_shortcuts queries old new is)
@@ -37,23 +33,26 @@ module _ (c : Compiled) (queries : List Query) (right : IsRight c) where
   unfolding Sends
   sends_wanting old new is = inr (part old new is)
 
-  pub searches_this : (before after : ℕ) → SearchesFirst (ArePairsOf c) queries before after → SearchesFor (IsThisInput c.network queries) before after
+  pub searches_this : (before after : ℕ) → CountsFirst (IsSearchedFor c) queries before after → SearchesFor (IsThisInput c.network queries) before after
   searches_this before after is = inr (
     c.network,
     queries,
     (refl, refl),
-    SearchesFirst-weaker (ArePairsOf c) (IsParetoList c.network) (λ s d t limit pairs are. are.exact right) queries before after is,
+    CountsFirst-weaker (IsSearchedFor c) (IsSearchedOver c.network) (λ q b a one. one.exact right) queries before after is,
   )
 
-  pub opens_this : (before after : ℕ) → after ≤ before + sum_by limit_of queries * length c.table.routes → OpensFor (IsThisInput c.network queries) before after
-  opens_this before after few = inr (
-    c.network,
-    queries,
-    (refl, refl),
-    map (λ (route : Route). route.trips) c.table.routes,
-    right.fits.table.routes,
-    subst (λ (routes : ℕ). after ≤ before + sum_by limit_of queries * routes) (sym (length-map c.table.routes (λ (route : Route). route.trips))) few,
-  )
+  pub opens_this : (before after : ℕ) → CountsFirst (IsOpenedFor c) queries before after → OpensFor (IsThisInput c.network queries) before after
+  opens_this before after is =
+      let exact : CountsFirst (IsOpenedOver c.network (length c.table.routes)) queries before after =
+      CountsFirst-weaker (IsOpenedFor c) (IsOpenedOver c.network (length c.table.routes)) (λ q b a one. one.exact right) queries before after is in
+      inr (
+        c.network,
+        queries,
+        (refl, refl),
+        map (λ (route : Route). route.trips) c.table.routes,
+        right.fits.table.routes,
+        subst (λ (routes : ℕ). CountsFirst (IsOpenedOver c.network routes) queries before after) (sym (length-map c.table.routes (λ (route : Route). route.trips))) exact,
+      )
 
 -- what is searched for some networks and queries is searched for more
 pub SearchesFor-weaker : (P Q : Network → List Query → Type 0) (before after : ℕ) → ((n : Network) (queries : List Query) → P n queries → Q n queries)

@@ -14,3 +14,4 @@ mod FaultOnce
 mod TextOnce
 mod FeedRefusal
 mod StreetsRejected
+mod CityLemmas

@@ -1,34 +1,31 @@
 -- What a run answers, and how much it searches for it.
---     IsAnswerByShortcuts n s d t k found   the findings are the exact answer, and go by shortcuts between rides
---     SearchesFor Asked before after        searches in the streets, for a network and queries that are asked about, or none
---     OpensFor Asked before after           openings of routes for them, or none
-use Rattle.std.specs.Prelude.{◌≡◌, ◌⊎◌, ℕ, ◌+◌, ◌*◌, ◌≤◌, List, length, sum_by, All}
+--     IsAnswerByShortcuts n q a         the answer is the exact one, and goes by shortcuts between rides
+--     SearchesFor Asked before after    searches in the streets, for a network and queries that are asked about, or none
+--     OpensFor Asked before after       openings of routes for them, or none
+use Rattle.std.specs.Prelude.{◌≡◌, ◌⊎◌, ℕ, List, length}
 use Rattle.move_model.specs.declared.network.Network.{Network}
-use Rattle.move_model.specs.declared.network.NodeNo.{NodeNo}
 use Rattle.move_model.specs.declared.network.TripNo.{TripNo}
-use Rattle.move_model.specs.declared.journey.Finding.{Finding}
 use Rattle.move_model.specs.declared.journey.Shortcut.{Shortcut}
 use Rattle.move_model.specs.declared.query.Query.{Query}
-use Rattle.move_model.specs.Journey.{IsParetoList}
-use Rattle.move_model.specs.Found.{IsPointAnswer}
-use Rattle.move_model.specs.Shortcut.{IsShortcutList, TransfersListed}
+use Rattle.move_model.specs.Shortcut.{IsShortcutList}
 use Rattle.route_split.specs.Routes.{AreRoutes}
-use Rattle.answer_rows.specs.Searched.{SearchesFirst, limit_of}
+use Rattle.answer_rows.specs.Answer.{Answer, IsExactAnswer, GoesByList}
+use Rattle.answer_rows.specs.Counted.{CountsFirst, IsSearchedOver, IsOpenedOver}
 
 -- between two rides the passenger stays at the stop, or goes by a shortcut of the network
-pub record IsAnswerByShortcuts (n : Network) (s : NodeNo) (d : ℕ) (t : NodeNo) (limit : ℕ) (found : List Finding) : Type 0 where
-  pub exact : IsPointAnswer n s d t limit found
+pub record IsAnswerByShortcuts (n : Network) (q : Query) (answer : Answer) : Type 0 where
+  pub exact : IsExactAnswer n q answer
   pub list : List Shortcut
   pub shortcuts : IsShortcutList n list
-  pub transfers : All (λ finding. TransfersListed n list finding.journey.rides) found
+  pub transfers : GoesByList n list answer
 
--- three for each query that was begun, and at most one for each walk of the journeys of its Pareto set
+-- for each query that was begun
 abbrev pub SearchesFor : (Network → List Query → Type 0) → ℕ → ℕ → Type 0
 SearchesFor Asked before after =
-    (after ≡ before) ⊎ ((n : Network) × (queries : List Query) × Asked n queries × SearchesFirst (IsParetoList n) queries before after)
+    (after ≡ before) ⊎ ((n : Network) × (queries : List Query) × Asked n queries × CountsFirst (IsSearchedOver n) queries before after)
 
--- the limits of the queries, times the number of routes of the trips
+-- for each query that was begun, by the number of routes of the trips
 abbrev pub OpensFor : (Network → List Query → Type 0) → ℕ → ℕ → Type 0
 OpensFor Asked before after =
     (after ≡ before) ⊎ ((n : Network) × (queries : List Query) × Asked n queries × (routes : List (List TripNo)) × AreRoutes n.trips routes
-    × (after ≤ before + sum_by limit_of queries * length routes))
+    × CountsFirst (IsOpenedOver n (length routes)) queries before after)

@@ -8,6 +8,8 @@
 --     ComesUnsent status         the run ended before anything was sent
 --     IsAnyInput, IsThisInput    any network and queries; this network and these queries alone
 --     Sends Asked old new status what a run has sent under its status, for a network and queries that are asked about
+--     SendsCity city old new status   what the run of a city has sent under its status
+--     SendsAny old new status    the one or the other, for any network and queries and for any city
 use Rattle.std.specs.Prelude.{◌≡◌, ◌⊎◌, ◌++◌, ℕ, List, [], ◌∷◌, ◌==◌, if◌then◌else◌, true, codes, decimal}
 use Rattle.move_files.specs.declared.outside.Files.{Ghosts}
 use Rattle.move_model.specs.declared.network.Network.{Network}
@@ -18,6 +20,8 @@ use Rattle.move_model.specs.declared.refusal.Cause.{Cause}
 use Rattle.move_model.specs.declared.refusal.Cause.TheVariants as cause
 use Rattle.move_model.specs.declared.refusal.Refusal.{Refusal}
 use Rattle.answer_rows.specs.Printed.{PrintsAll, PrintsPart}
+use Rattle.city_run.specs.declared.words.CityWords.{CityWords}
+use Rattle.city_run.specs.Sent.{SendsSummary, SendsPart as SendsPartOfSummary}
 use Rattle.top_call.specs.declared.status.Status.{Status}
 use Rattle.top_call.specs.declared.status.Status.TheVariants as status
 use Rattle.top_call.specs.Words.{Plan, name_in, file_text, IsNamed}
@@ -177,3 +181,17 @@ Sends Asked old new status.Usage = new ≡ old
 Sends Asked old new (status.Refused r) = new ≡ old
 Sends Asked old new (status.NoFile k) = new ≡ old
 Sends Asked old new (status.ReadFault k) = new ≡ old
+
+-- Done sends the lines of the city's summary; a failed write leaves a part of them, and want of memory too, or nothing; no other
+-- status comes
+unfoldable pub SendsCity : CityWords → List ℕ → List ℕ → Status → Type 0
+SendsCity city old new status.Done = SendsSummary city.side city.lines city.number old new
+SendsCity city old new status.WriteFault = SendsPartOfSummary city.side city.lines city.number old new
+SendsCity city old new status.NoMemory = (new ≡ old) ⊎ SendsPartOfSummary city.side city.lines city.number old new
+SendsCity city old new status.Usage = ⊥
+SendsCity city old new (status.Refused r) = ⊥
+SendsCity city old new (status.NoFile k) = ⊥
+SendsCity city old new (status.ReadFault k) = ⊥
+
+abbrev pub SendsAny : List ℕ → List ℕ → Status → Type 0
+SendsAny old new s = Sends IsAnyInput old new s ⊎ ((city : CityWords) × SendsCity city old new s)

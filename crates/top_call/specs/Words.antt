@@ -1,5 +1,6 @@
 -- The words of a command.
 --     plan_of words              what the words plan FEED GR CO DATE SCALE QUERIES [BUFFER] name, or None
+--     city_in words              the numbers that the words city SIDE LINES NUMBER are, or None
 --     name_in plan kind          the name of a file of the plan
 --     IsNamed plan kind          the words name such a file
 use Rattle.std.specs.Prelude.{◌≢◌, ◌++◌, ℕ, List, [], ◌∷◌, Option, Some, None, option_and_then, codes, if◌then◌else◌}
@@ -9,6 +10,8 @@ use Rattle.std.specs.declared.alloc.Global.{Global}
 use Rattle.std.specs.declared.string.String.{String}
 use Rattle.feed_values.specs.Date.{date_of}
 use Rattle.tables.specs.Values.{is_within, number_in}
+use Rattle.city_run.specs.Words.{city_of}
+use Rattle.city_run.specs.declared.words.CityWords.{CityWords}
 use Rattle.top_call.specs.declared.words.PlanWords.{PlanWords}
 use Rattle.move_model.specs.declared.refusal.FileKind.{FileKind}
 use Rattle.move_model.specs.declared.refusal.FileKind.TheVariants as kind
@@ -62,6 +65,11 @@ plan_of (verb ∷ feed ∷ gr ∷ co ∷ date ∷ scale ∷ queries ∷ buffer �
     then plan_with (string_bytes feed) (string_bytes gr) (string_bytes co) (string_bytes date) (string_bytes scale) (string_bytes queries) (string_bytes buffer)
     else None
 plan_of _ = None
+
+unfoldable pub city_in : List (String Global) → Option CityWords
+city_in (verb ∷ side ∷ lines ∷ number ∷ []) =
+    if bytes_eq (string_bytes verb) (codes "city") then city_of (string_bytes side) (string_bytes lines) (string_bytes number) else None
+city_in _ = None
 
 -- a file of the feed's folder
 abbrev pub in_folder : List ℕ → List ℕ → List ℕ

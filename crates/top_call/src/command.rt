@@ -3,21 +3,23 @@ ghost use Rattle.std.specs.Prelude.{◌≡◌, ◌⊎◌, ◌++◌, ◌↔◌, �
 ghost use Rattle.move_model.specs.Check.{KeepsRules};
 ghost use Rattle.move_model.specs.declared.refusal.FileKind.{FileKind};
 ghost use Rattle.network_file.specs.Compiled.{IsRight};
-ghost use Rattle.query_table.specs.Queries.{IsAt, IsQuery};
+ghost use Rattle.query_table.specs.Queries.{IsQuery};
 ghost use Rattle.move_files.specs.Outside.{Rose, SendsPrefix};
 ghost use Rattle.feed_values.specs.Date.{IsDay};
-ghost use Rattle.top_call.specs.Words.{told, plan_of};
+ghost use Rattle.city_run.specs.Sent.{SearchesForCity, OpensForCity};
+ghost use Rattle.top_call.specs.Words.{told, plan_of, city_in};
 ghost use Rattle.top_call.specs.Reading.{OnlyReads, NeverFall};
 ghost use Rattle.top_call.specs.Input.{held, IsInput, InputAccepted};
 ghost use Rattle.top_call.specs.Rejected.{RejectsInput, ComesUnlessStopped, NoneRose, FitsInput};
 ghost use Rattle.top_call.specs.Answered.{SearchesFor, OpensFor};
-ghost use Rattle.top_call.specs.Status.{MissesFile, FailsFile, ComesUnsent, IsAnyInput, IsThisInput, Sends, line_of};
+ghost use Rattle.top_call.specs.Status.{MissesFile, FailsFile, ComesUnsent, IsAnyInput, IsThisInput, Sends, SendsCity, line_of};
 ghost use Rattle.top_call.specs.declared.status.Status.{Status as Ending};
 
 use crate::line::Line;
 use crate::network::read_inputs;
 use crate::status::Status;
-use crate::words::{PlanWords, plan_words};
+use crate::words::{PlanWords, city_words_in, plan_words};
+use city_run::{CityStop, CityWords, run_city};
 use move_files::{Files, Sink, write_whole};
 use move_model::{Network, Queries};
 use plan_core::{AnswerStop, Compiled, answer, compile};
@@ -36,7 +38,7 @@ fn send_compiled<O: Sink, L: Ledger, M: Ledger>(
 ) -> Status
     requires right { IsRight compiled.now }
     requires few { length queries.now ≤ 100000 }
-    requires queries { All (IsQuery compiled.now.network) queries.now × All IsAt queries.now }
+    requires queries { All (IsQuery compiled.now.network) queries.now }
     ensures ends { (result ≡ Status.Done) ⊎ (result ≡ Status.WriteFault) ⊎ (result ≡ Status.NoMemory) }
     ensures sent { O.tells → Sends (IsThisInput compiled.now.network queries.now) (O.sent out.old) (O.sent out.new) result }
     ensures write_fault { result ≡ Status.WriteFault → Rose (O.faults out.old) (O.faults out.new) }
@@ -63,7 +65,7 @@ fn send_answers<O: Sink, L: Ledger, M: Ledger>(
 ) -> Status
     requires few { length queries.now ≤ 100000 }
     requires rules { KeepsRules network }
-    requires queries { All (IsQuery network) queries.now × All IsAt queries.now }
+    requires queries { All (IsQuery network) queries.now }
     ensures ends { (result ≡ Status.Done) ⊎ (result ≡ Status.WriteFault) ⊎ (result ≡ Status.NoMemory) }
     ensures sent { O.tells → Sends (IsThisInput network queries.now) (O.sent out.old) (O.sent out.new) result }
     ensures write_fault { result ≡ Status.WriteFault → Rose (O.faults out.old) (O.faults out.new) }
@@ -111,9 +113,9 @@ fn run_plan<F: Files, O: Sink, L: Ledger, M: Ledger>(
     }
 }
 
-// The command that the words name, without the line of its status.
+// Runs `plan`, where the words name one.
 #[tactic(auto, unfolding(crate::specs::Status::Sends))]
-fn run_command<F: Files, O: Sink, L: Ledger, M: Ledger>(
+fn run_plan_words<F: Files, O: Sink, L: Ledger, M: Ledger>(
     alloc: Global,
     words: &[String],
     files: &mut F,
@@ -147,6 +149,79 @@ fn run_command<F: Files, O: Sink, L: Ledger, M: Ledger>(
     }
 }
 
+// Runs `city`.
+#[tactic(auto, unfolding(crate::specs::Status::SendsCity, crate::specs::Status::ComesUnsent))]
+fn run_city_words<O: Sink, L: Ledger, M: Ledger>(
+    alloc: Global,
+    city: CityWords,
+    out: &mut O,
+    searches: &mut Steps<L>,
+    opens: &mut Steps<M>,
+) -> Status
+    requires least { 5 ≤ city.side }
+    requires most { city.side ≤ 200 }
+    requires few { city.lines ≤ 200 }
+    ensures ends { (result ≡ Status.Done) ⊎ (result ≡ Status.WriteFault) ⊎ (result ≡ Status.NoMemory) }
+    ensures summed { O.tells → SendsCity city (O.sent out.old) (O.sent out.new) result }
+    ensures write_fault { result ≡ Status.WriteFault → Rose (O.faults out.old) (O.faults out.new) }
+    ensures counts { NeverFall O.Sink out.old out.new }
+    ensures searches { SearchesForCity city.side city.lines city.number searches.old searches.new }
+    ensures opens { OpensForCity city.side city.lines city.number opens.old opens.new }
+{
+    match run_city(
+        alloc,
+        city.side,
+        city.lines,
+        city.number,
+        out,
+        searches,
+        opens,
+    ) {
+        Ok(()) => Status::Done,
+        Err(CityStop::WriteFault) => Status::WriteFault,
+        Err(CityStop::NoMemory) => Status::NoMemory,
+    }
+}
+
+// The command that the words name, without the line of its status.
+fn run_command<F: Files, O: Sink, L: Ledger, M: Ledger>(
+    alloc: Global,
+    words: &[String],
+    files: &mut F,
+    out: &mut O,
+    searches: &mut Steps<L>,
+    opens: &mut Steps<M>,
+) -> Status
+    ensures printed { F.tells → O.tells → IfSome (plan_of words.now) (λ plan.
+        Sends (IsInput plan (held plan (F.holds files.old))) (O.sent out.old) (O.sent out.new) result) }
+    ensures summed { O.tells → IfSome (city_in words.now) (λ city. SendsCity city (O.sent out.old) (O.sent out.new) result) }
+    ensures sent { O.tells → IsNone (city_in words.now) → Sends IsAnyInput (O.sent out.old) (O.sent out.new) result }
+    ensures unsent { ComesUnsent result → out.new ≡ out.old }
+    ensures fits { F.tells → IfSome (plan_of words.now) (λ plan. FitsInput plan (held plan (F.holds files.old)) result) }
+    ensures usage { (result ≡ Status.Usage) ↔ (IsNone (plan_of words.now) × IsNone (city_in words.now)) }
+    ensures unread { IsNone (plan_of words.now) → files.new ≡ files.old }
+    ensures city_ends { IfSome (city_in words.now) (λ city. (result ≡ Status.Done) ⊎ (result ≡ Status.WriteFault) ⊎ (result ≡ Status.NoMemory)) }
+    ensures no_file { (kind : FileKind) → result ≡ Status.NoFile kind
+        → IfSome (plan_of words.now) (λ plan. MissesFile plan F.Files kind files.old files.new) }
+    ensures read_fault { (kind : FileKind) → result ≡ Status.ReadFault kind
+        → IfSome (plan_of words.now) (λ plan. FailsFile plan F.Files kind files.old files.new) }
+    ensures write_fault { result ≡ Status.WriteFault → Rose (O.faults out.old) (O.faults out.new) }
+    ensures reads { OnlyReads F.Files files.old files.new }
+    ensures counts { NeverFall O.Sink out.old out.new }
+    ensures searches { F.tells → IfSome (plan_of words.now) (λ plan.
+        SearchesFor (IsInput plan (held plan (F.holds files.old))) searches.old searches.new) }
+    ensures opens { F.tells → IfSome (plan_of words.now) (λ plan.
+        OpensFor (IsInput plan (held plan (F.holds files.old))) opens.old opens.new) }
+    ensures city_searches { IfSome (city_in words.now) (λ city. SearchesForCity city.side city.lines city.number searches.old searches.new) }
+    ensures city_opens { IfSome (city_in words.now) (λ city. OpensForCity city.side city.lines city.number opens.old opens.new) }
+    ensures unsearched { ComesUnsent result → (searches.new ≡ searches.old) × (opens.new ≡ opens.old) }
+{
+    match city_words_in(words) {
+        Some(city) => run_city_words(alloc, city, out, searches, opens),
+        None => run_plan_words(alloc, words, files, out, searches, opens),
+    }
+}
+
 /// Sends the line of a status.
 pub fn tell<E: Sink>(status: Status, err: &mut E)
     ensures line { E.tells → SendsPrefix (E.sent err.old) (line_of status) (E.sent err.new) }
@@ -169,15 +244,21 @@ pub fn run<F: Files, O: Sink, E: Sink, L: Ledger, M: Ledger>(
     searches: &mut Steps<L>,
     opens: &mut Steps<M>,
 ) -> Status
-    // On Done the rows of the answers to the queries of QUERIES over the network of the files were sent: for each query
-    // exactly its Pareto set over all journeys of the network, each pair with the legs of a journey that attains it, and whose
-    // transfers from one stop to another are shortcuts of the network. After a failed write, or want of memory, a part of such
-    // a text was sent; every other status comes before anything is sent.
+    // On Done the rows of the answers to the queries of QUERIES over the network of the files were sent: for a point query
+    // exactly its Pareto set over all journeys of the network, and for a range exactly the Pareto set at every second of its
+    // window, as the walk on foot and spans. Each pair and span has the legs of a journey that attains it, and whose transfers
+    // from one stop to another are shortcuts of the network. After a failed write, or want of memory, a part of such a text was
+    // sent; every other status comes before anything is sent.
     ensures printed { F.tells → O.tells → IfSome (plan_of words.now) (λ plan.
         Sends (IsInput plan (held plan (F.holds files.old))) (O.sent out.old) (O.sent out.new) result) }
 
+    // For a city, on Done the lines of its summary were sent: its size, the number of its shortcuts, and what the exact answers
+    // to its queries come to. A failed write, or want of memory, ends it as it ends a plan, and no other status comes.
+    ensures summed { O.tells → IfSome (city_in words.now) (λ city. SendsCity city (O.sent out.old) (O.sent out.new) result) }
+    ensures city_ends { IfSome (city_in words.now) (λ city. (result ≡ Status.Done) ⊎ (result ≡ Status.WriteFault) ⊎ (result ≡ Status.NoMemory)) }
+
     // Over files that tell no contents, the rows are those of some queries over some network.
-    ensures sent { O.tells → Sends IsAnyInput (O.sent out.old) (O.sent out.new) result }
+    ensures sent { O.tells → IsNone (city_in words.now) → Sends IsAnyInput (O.sent out.old) (O.sent out.new) result }
     ensures unsent { ComesUnsent result → out.new ≡ out.old }
 
     // Refused and NoFile tell the first thing that is wrong with the files, in the order in which they are read; ReadFault
@@ -193,10 +274,10 @@ pub fn run<F: Files, O: Sink, E: Sink, L: Ledger, M: Ledger>(
         → NoneRose (F.read_faults files.old) (F.read_faults files.new) → (Rose (O.faults out.old) (O.faults out.new) → ⊥)
         → (result ≡ Status.Done) ⊎ (result ≡ Status.NoMemory)) }
 
-    // Usage comes exactly where the words are no command, and then no file is read; a missing file and a failed read are of
+    // Usage comes exactly where the words are no command. No file is read where they are no plan. A missing file and a failed read are of
     // a file that the words name, and only where the count of that name rose; a failed write only where that of out rose.
-    ensures usage { (result ≡ Status.Usage) ↔ IsNone (plan_of words.now) }
-    ensures unread { result ≡ Status.Usage → files.new ≡ files.old }
+    ensures usage { (result ≡ Status.Usage) ↔ (IsNone (plan_of words.now) × IsNone (city_in words.now)) }
+    ensures unread { IsNone (plan_of words.now) → files.new ≡ files.old }
     ensures no_file { (kind : FileKind) → result ≡ Status.NoFile kind
         → IfSome (plan_of words.now) (λ plan. MissesFile plan F.Files kind files.old files.new) }
     ensures read_fault { (kind : FileKind) → result ≡ Status.ReadFault kind
@@ -212,12 +293,15 @@ pub fn run<F: Files, O: Sink, E: Sink, L: Ledger, M: Ledger>(
     ensures counts { NeverFall O.Sink out.old out.new × NeverFall E.Sink err.old err.new }
 
     // Streets are searched three times for each query that was begun, and at most once for each walk of the journeys of its
-    // Pareto set. Each route of the trips is opened at most once for each round of a query, and a query has as many rounds as
-    // its limit. Where nothing is sent because of the words or the files, nothing is searched and no route is opened.
+    // answer. Each route of the trips is opened at most once for each round of a point query, and at most once for each round
+    // and eight departures of a range; a query has as many rounds as its limit. Where nothing is sent because of the words or
+    // the files, nothing is searched and no route is opened.
     ensures searches { F.tells → IfSome (plan_of words.now) (λ plan.
         SearchesFor (IsInput plan (held plan (F.holds files.old))) searches.old searches.new) }
     ensures opens { F.tells → IfSome (plan_of words.now) (λ plan.
         OpensFor (IsInput plan (held plan (F.holds files.old))) opens.old opens.new) }
+    ensures city_searches { IfSome (city_in words.now) (λ city. SearchesForCity city.side city.lines city.number searches.old searches.new) }
+    ensures city_opens { IfSome (city_in words.now) (λ city. OpensForCity city.side city.lines city.number opens.old opens.new) }
     ensures unsearched { ComesUnsent result → (searches.new ≡ searches.old) × (opens.new ≡ opens.old) }
 {
     let status = run_command(alloc, words, files, out, searches, opens);

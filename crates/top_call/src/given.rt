@@ -2,7 +2,7 @@
 ghost use Rattle.std.specs.Prelude.{◌≡◌, ◌⊎◌, ◌++◌, IfErr};
 ghost use Rattle.move_files.specs.Outside.{Rose, SendsPrefix};
 ghost use Rattle.top_call.specs.Reading.{OnlyReads, NeverFall};
-ghost use Rattle.top_call.specs.Status.{ComesUnsent, IsAnyInput, Sends, line_of};
+ghost use Rattle.top_call.specs.Status.{ComesUnsent, SendsAny, line_of};
 
 use crate::command::{run, tell};
 use crate::status::Status;
@@ -41,8 +41,9 @@ pub fn run_program<R: Env + Alloc<A = Global>, F: Files, O: Sink, E: Sink, L: Le
     searches: &mut Steps<L>,
     opens: &mut Steps<M>,
 ) -> Status
-    // Nothing is sent before all refusals are past, and then the rows of some queries over some network.
-    ensures sent { O.tells → Sends IsAnyInput (O.sent out.old) (O.sent out.new) result }
+    // Nothing is sent before all refusals are past, and then the rows of some queries over some network, or the lines of some
+    // city.
+    ensures sent { O.tells → SendsAny (O.sent out.old) (O.sent out.new) result }
     ensures unsent { ComesUnsent result → out.new ≡ out.old }
     ensures unread { result ≡ Status.Usage → files.new ≡ files.old }
     ensures write_fault { result ≡ Status.WriteFault → Rose (O.faults out.old) (O.faults out.new) }

@@ -4,7 +4,7 @@ ghost use Rattle.std.specs.Option.{ForSome};
 ghost use Rattle.move_model.specs.Check.{KeepsRules};
 ghost use Rattle.move_model.specs.Network.{IsNumbered, streets};
 ghost use Rattle.move_model.specs.declared.refusal.FileKind.TheVariants as Kind;
-ghost use Rattle.query_table.specs.Queries.{IsAt, IsQuery};
+ghost use Rattle.query_table.specs.Queries.{IsQuery};
 ghost use Rattle.street_graph.specs.Graph.{IsWithinLimits};
 ghost use Rattle.stop_places.specs.Places.{ArePlaced};
 ghost use Rattle.stop_places.specs.Table.{TableAccepted, table_vertex};
@@ -188,7 +188,7 @@ pub fn read_inputs<F: Files>(
     ensures input { F.tells → IfOk result (λ inputs. IsInput (told plan.now) (held (told plan.now) (F.holds files.old)) inputs.0 inputs.1) }
     ensures rejected { F.tells → IfErr result (StopsBy (RejectsInput (told plan.now) (held (told plan.now) (F.holds files.old))) (IsTurn (told plan.now) (held (told plan.now) (F.holds files.old)))) }
     ensures rules { IfOk result (λ inputs. KeepsRules inputs.0 × IsNumbered inputs.0) }
-    ensures queries { IfOk result (λ inputs. All (IsQuery inputs.0) inputs.1 × All IsAt inputs.1) }
+    ensures queries { IfOk result (λ inputs. All (IsQuery inputs.0) inputs.1) }
     ensures few { IfOk result (λ inputs. length inputs.1 ≤ 100000) }
     ensures cause { IfErr result (HasCause (told plan.now) F.Files files.old files.new) }
     ensures reads { OnlyReads F.Files files.old files.new }

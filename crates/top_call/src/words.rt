@@ -4,6 +4,7 @@ ghost use Rattle.std.specs.String.{string_bytes};
 ghost use Rattle.feed_values.specs.Date.{IsDay};
 ghost use Rattle.top_call.specs.Words as spec;
 
+use city_run::{CityWords, city_words};
 use feed_values::date;
 use move_model::{FileKind, NoMemory};
 use std::alloc::Global;
@@ -100,6 +101,22 @@ pub fn plan_words(words: &[String]) -> Option<PlanWords>
             queries.as_str(),
             buffer.as_str(),
         ),
+        _ => None,
+    }
+}
+
+/// The numbers of a city that the words name, or None exactly where they are no command of a city.
+#[tactic(auto, unfolding(crate::specs::Words::city_in))]
+pub fn city_words_in(words: &[String]) -> Option<CityWords>
+    ensures least { IfSome result (λ city. 5 ≤ city.side) }
+    ensures most { IfSome result (λ city. city.side ≤ 200) }
+    ensures few { IfSome result (λ city. city.lines ≤ 200) }
+    ensures value { result ≡ spec.city_in words.now }
+{
+    match words {
+        [verb, side, lines, number] if verb.as_str() == "city" => {
+            city_words(side.as_str(), lines.as_str(), number.as_str())
+        }
         _ => None,
     }
 }
