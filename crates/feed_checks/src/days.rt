@@ -1,16 +1,22 @@
 // Worked rows: calendars, frequencies, night trips and refusals, over feeds of two stops and one service.
 ghost use Rattle.std.specs.Prelude.{◌≡◌, ◌≤◌, ◌<◌, ◌-◌, ◌^◌, All, IfOk, IsTrue, length};
 ghost use Rattle.std.specs.List.Sorted.{IsNonDecreasingBy};
+ghost use Rattle.service_day.specs.Day.{IsDay};
 ghost use Rattle.gtfs_feed.specs.Feed.{IsFeed, IsFeedTrip, IsCopyRow, IsId};
 ghost use Rattle.feed_checks.specs.Kept.{Goes, EndsInTime, IsStopNamed};
 
 use gtfs_feed::{CopyRow, CopyRows, Feed, FeedStop, FeedTrip, FeedTrips, Service};
-use move_model::{Call, Cause, FileKind, List, NoMemory, Refusal, StopNo, Stopped};
+use move_model::{
+    Call, Calls, Cause, FileKind, List, NoMemory, Refusal, StopNo, Stopped, Trip, Trips,
+};
 use service_day::{ServiceSet, active, active_before, expand};
 use std::alloc::Global;
 use std::test::Fail;
 
 const LAST_SECOND: u32 = 3_599_999;
+
+/// A call: its stop, and the seconds of its arrival and its departure.
+type CallRow = (u32, u32, u32);
 
 fn call(stop: u32, arr: u32, dep: u32) -> Call {
     Call {
@@ -99,7 +105,26 @@ fn service(
     })
 }
 
-fn feed_trips(alloc: Global, trips: &[&[Call]]) -> Result<FeedTrips, Fail>
+fn calls_of(alloc: Global, rows: &[CallRow]) -> Result<Calls, NoMemory> {
+    let mut calls = Calls::new(alloc);
+    for (stop, arr, dep) in rows {
+        calls.push(call(*stop, *arr, *dep))?;
+    }
+    Ok(calls)
+}
+
+fn trip_of(alloc: Global, rows: &[CallRow]) -> Result<FeedTrip, Fail>
+    ensures trip { IfOk result (IsFeedTrip 2 1) }
+    ensures few { IfOk result (λ trip. length trip.calls < 100) }
+{
+    let calls = calls_of(alloc, rows)?;
+    if !goes(calls.as_slice()) {
+        return Err(Fail::new("calls"));
+    }
+    Ok(feed_trip(alloc, calls.as_slice())?)
+}
+
+fn feed_trips(alloc: Global, trips: &[&[CallRow]]) -> Result<FeedTrips, Fail>
     requires { length trips.now < 100 }
     ensures trips { IfOk result (All (IsFeedTrip 2 1)) }
     ensures few { IfOk result (All (λ trip. length trip.calls < 100)) }
@@ -107,10 +132,7 @@ fn feed_trips(alloc: Global, trips: &[&[Call]]) -> Result<FeedTrips, Fail>
 {
     let mut list = List::new(alloc);
     for calls in trips {
-        if !goes(calls) {
-            return Err(Fail::new("calls"));
-        }
-        list.push(feed_trip(alloc, calls)?)?;
+        list.push(trip_of(alloc, calls)?)?;
     }
     Ok(list)
 }
@@ -136,7 +158,7 @@ fn copy_rows(alloc: Global, rows: &[CopyRow], trips: &[FeedTrip]) -> Result<Copy
 }
 
 // A feed of two stops, a service and these trips and rows.
-fn feed(alloc: Global, trips: &[&[Call]], rows: &[CopyRow]) -> Result<Feed, Fail>
+fn feed(alloc: Global, trips: &[&[CallRow]], rows: &[CopyRow]) -> Result<Feed, Fail>
     requires trips { length trips.now < 100 }
     requires rows { length rows.now < 100 }
     ensures feed { IfOk result IsFeed }
@@ -170,88 +192,98 @@ fn calendar(alloc: Global, service: Service) -> Result<Feed, NoMemory> {
     })
 }
 
-// Whether a service with these weekdays, dates and exceptions runs on Monday 3 March 2025, and on the day before.
-fn runs(
-    alloc: Global,
-    days: [bool; 7],
-    first: u32,
-    last: u32,
-    added: &[u32],
-    removed: &[u32],
-) -> Result<[bool; 2], Fail> {
-    let feed = calendar(alloc, service(alloc, days, first, last, added, removed)?)?;
-    let today = active(alloc, &feed, 20250303)?;
-    let before = active_before(alloc, &feed, 20250303)?;
-    match (today.as_slice(), before.as_slice()) {
-        ([today], [before]) => Ok([*today, *before]),
+// Whether the one service of a feed runs on a day.
+fn runs_on(alloc: Global, feed: &Feed, day: u32) -> Result<bool, Fail>
+    requires { IsDay day }
+{
+    let set = active(alloc, feed, day)?;
+    match set.as_slice() {
+        [runs] => Ok(*runs),
         _ => Err(Fail::new("one service")),
     }
 }
 
+// Whether the one service of a feed runs on the day before.
+fn runs_before(alloc: Global, feed: &Feed, day: u32) -> Result<bool, Fail>
+    requires { IsDay day }
+{
+    let set = active_before(alloc, feed, day)?;
+    match set.as_slice() {
+        [runs] => Ok(*runs),
+        _ => Err(Fail::new("one service")),
+    }
+}
+
+// Weekdays from Monday, the first and the last day, and days added and removed; whether a service with these runs on
+// Monday 3 March 2025, and on the day before.
+type ServiceRow = (
+    [bool; 7],
+    u32,
+    u32,
+    &'static [u32],
+    &'static [u32],
+    [bool; 2],
+);
+
+const NONE: [bool; 7] = [false, false, false, false, false, false, false];
+
+const MONDAY: [bool; 7] = [true, false, false, false, false, false, false];
+
+const SUNDAY: [bool; 7] = [false, false, false, false, false, false, true];
+
+const SERVICES: [ServiceRow; 9] = [
+    (NONE, 0, 0, &[], &[], [false, false]),
+    (NONE, 20250101, 20251231, &[20250303], &[], [true, false]),
+    (MONDAY, 20250101, 20251231, &[], &[], [true, false]),
+    (MONDAY, 20250101, 20251231, &[], &[20250303], [false, false]),
+    (MONDAY, 20250303, 20250303, &[], &[], [true, false]),
+    (MONDAY, 20250304, 20251231, &[], &[], [false, false]),
+    (MONDAY, 20250101, 20250302, &[], &[], [false, false]),
+    (SUNDAY, 20250101, 20251231, &[], &[], [false, true]),
+    (NONE, 0, 0, &[20250302], &[20250303], [false, true]),
+];
+
+fn calendar_of(alloc: Global, row: ServiceRow) -> Result<Feed, NoMemory> {
+    let (days, first, last, added, removed, _) = row;
+    calendar(alloc, service(alloc, days, first, last, added, removed)?)
+}
+
+fn runs(alloc: Global, row: ServiceRow) -> Result<[bool; 2], Fail> {
+    let feed = calendar_of(alloc, row)?;
+    Ok([
+        runs_on(alloc, &feed, 20250303)?,
+        runs_before(alloc, &feed, 20250303)?,
+    ])
+}
+
 #[test]
 fn runs_by_calendar_and_exceptions(rt: HostRuntime) -> Result<(), Fail> {
-    let alloc = rt.alloc();
-    let none = [false; 7];
-    let monday = [true, false, false, false, false, false, false];
-    let sunday = [false, false, false, false, false, false, true];
-    let (from, to) = (20250101, 20251231);
-    assert_eq!(rt; runs(alloc, none, 0, 0, &[], &[])?, [false, false]);
-    assert_eq!(rt;
-        runs(alloc, none, from, to, &[20250303], &[])?,
-        [true, false]
-    );
-    assert_eq!(rt; runs(alloc, monday, from, to, &[], &[])?, [true, false]);
-    assert_eq!(rt;
-        runs(alloc, monday, from, to, &[], &[20250303])?,
-        [false, false]
-    );
-    assert_eq!(rt;
-        runs(alloc, monday, 20250303, 20250303, &[], &[])?,
-        [true, false]
-    );
-    assert_eq!(rt;
-        runs(alloc, monday, 20250304, to, &[], &[])?,
-        [false, false]
-    );
-    assert_eq!(rt;
-        runs(alloc, monday, from, 20250302, &[], &[])?,
-        [false, false]
-    );
-    assert_eq!(rt; runs(alloc, sunday, from, to, &[], &[])?, [false, true]);
-    assert_eq!(rt;
-        runs(alloc, none, 0, 0, &[20250302], &[20250303])?,
-        [false, true]
-    );
+    for (i, row) in SERVICES.iter().enumerate() {
+        assert_eq!(rt; runs(rt.alloc(), *row)?, row.5, "row {i}");
+    }
     Ok(())
 }
 
-// The day before, over the ends of months and years.
+// Whether a service runs on the days before these, over the ends of months and years.
+fn days_before(alloc: Global, feed: &Feed) -> Result<[bool; 5], Fail> {
+    Ok([
+        runs_before(alloc, feed, 20250301)?,
+        runs_before(alloc, feed, 20240301)?,
+        runs_before(alloc, feed, 20250101)?,
+        runs_before(alloc, feed, 102)?,
+        runs_before(alloc, feed, 101)?,
+    ])
+}
+
+fn days_before_added(alloc: Global, added: &'static [u32]) -> Result<[bool; 5], Fail> {
+    let feed = calendar_of(alloc, (NONE, 0, 0, added, &[], [false, false]))?;
+    days_before(alloc, &feed)
+}
+
 #[test]
 fn runs_on_the_day_before(rt: HostRuntime) -> Result<(), Fail> {
-    let alloc = rt.alloc();
-    let added = [20250228, 20240229, 20241231, 101];
-    let feed = calendar(alloc, service(alloc, [false; 7], 0, 0, &added, &[])?)?;
-    let runs = [true];
-    assert_eq!(rt;
-        active_before(alloc, &feed, 20250301)?.as_slice(),
-        runs.as_slice()
-    );
-    assert_eq!(rt;
-        active_before(alloc, &feed, 20240301)?.as_slice(),
-        runs.as_slice()
-    );
-    assert_eq!(rt;
-        active_before(alloc, &feed, 20250101)?.as_slice(),
-        runs.as_slice()
-    );
-    assert_eq!(rt;
-        active_before(alloc, &feed, 102)?.as_slice(),
-        runs.as_slice()
-    );
-    assert_eq!(rt;
-        active_before(alloc, &feed, 101)?.as_slice(),
-        [false].as_slice()
-    );
+    let runs = days_before_added(rt.alloc(), &[20250228, 20240229, 20241231, 101])?;
+    assert_eq!(rt; runs, [true, true, true, true, false]);
     Ok(())
 }
 
@@ -261,111 +293,145 @@ fn set(alloc: Global, runs: bool) -> Result<ServiceSet, NoMemory>
     List::from_slice(alloc, &[runs])
 }
 
-// Expands the trips, and tells whether the day's trips have the expected calls.
-fn gives(
-    alloc: Global,
-    trips: &[&[Call]],
-    rows: &[CopyRow],
-    today: bool,
-    before: bool,
-    expected: &[&[Call]],
-) -> Result<bool, Fail>
-    requires trips { length trips.now < 100 }
-    requires rows { length rows.now < 100 }
-{
-    let feed = feed(alloc, trips, rows)?;
-    let given = expand(alloc, &feed, &set(alloc, today)?, &set(alloc, before)?)?;
-    if given.len() != expected.len() {
-        return Ok(false);
-    }
-    for (trip, calls) in given.as_slice().iter().zip(expected) {
-        if trip.calls.as_slice() != *calls {
-            return Ok(false);
+fn are_calls(calls: &[Call], rows: &[CallRow]) -> bool {
+    for (found, (stop, arr, dep)) in calls.iter().zip(rows) {
+        if *found != call(*stop, *arr, *dep) {
+            return false;
         }
     }
-    Ok(true)
+    calls.len() == rows.len()
 }
 
+fn are_trips(trips: &[Trip], expected: &[&[CallRow]]) -> bool {
+    for (trip, calls) in trips.iter().zip(expected) {
+        if !are_calls(trip.calls.as_slice(), calls) {
+            return false;
+        }
+    }
+    trips.len() == expected.len()
+}
+
+type Expanded = Result<Trips, Stopped>;
+
+// What is expanded where the service runs on the day and on the day before, or on one of them alone.
+fn expanded(alloc: Global, feed: &Feed, today: bool, before: bool) -> Result<Expanded, NoMemory>
+    requires feed { IsFeed feed.now }
+    requires one { length feed.now.services ≡ 1 }
+    requires calls { All (λ trip. length trip.calls < 2 ^ 32 - 1) feed.now.trips }
+{
+    let today = set(alloc, today)?;
+    let before = set(alloc, before)?;
+    Ok(expand(alloc, feed, &today, &before))
+}
+
+// Trips, rows of copies, whether the service runs on the day and on the day before, and the trips of the day.
+type DayRow = (
+    &'static [&'static [CallRow]],
+    &'static [CopyRow],
+    bool,
+    bool,
+    &'static [&'static [CallRow]],
+);
+
+const DAY: [CallRow; 2] = [(0, 21600, 21600), (1, 22200, 22200)];
+
+const FIRST: [CallRow; 2] = [(0, 28800, 28800), (1, 29400, 29400)];
+
+const SECOND: [CallRow; 2] = [(0, 29700, 29700), (1, 30300, 30300)];
+
+const BY_NIGHT: [CallRow; 3] = [(0, 85800, 85800), (1, 86340, 86460), (0, 87000, 87000)];
+
+const LEFT: [CallRow; 2] = [(1, 0, 60), (0, 600, 600)];
+
+const ONE_CALL: [CallRow; 2] = [(0, 85800, 85800), (1, 87000, 87000)];
+
+const TIED: [CallRow; 2] = [(0, 0, 60), (1, 600, 600)];
+
+const MIDNIGHT: [CallRow; 2] = [(0, 0, 0), (1, 600, 600)];
+
+const COPIES: CopyRow = CopyRow {
+    trip: 0,
+    start: 28800,
+    end: 30600,
+    headway: 900,
+};
+
+const LATE: CopyRow = CopyRow {
+    trip: 0,
+    start: 86340,
+    end: 86401,
+    headway: 60,
+};
+
 // Copies at their starts before the end, night trips cut at midnight, and the order of what leaves at once.
+const DAYS: [DayRow; 9] = [
+    (&[&DAY], &[], true, true, &[&DAY]),
+    (&[&DAY], &[COPIES], true, true, &[&FIRST, &SECOND]),
+    (&[&SECOND, &FIRST], &[], true, false, &[&FIRST, &SECOND]),
+    (&[&SECOND, &FIRST], &[], false, true, &[]),
+    (&[&BY_NIGHT], &[], false, true, &[&LEFT]),
+    (&[&BY_NIGHT], &[], true, true, &[&LEFT, &BY_NIGHT]),
+    (&[&ONE_CALL], &[], false, true, &[]),
+    (
+        &[&BY_NIGHT, &TIED],
+        &[],
+        true,
+        true,
+        &[&TIED, &LEFT, &BY_NIGHT],
+    ),
+    (&[&DAY], &[LATE], false, true, &[&MIDNIGHT]),
+];
+
+fn has_trips(alloc: Global, feed: &Feed, row: DayRow) -> Result<bool, NoMemory>
+    requires feed { IsFeed feed.now }
+    requires one { length feed.now.services ≡ 1 }
+    requires calls { All (λ trip. length trip.calls < 2 ^ 32 - 1) feed.now.trips }
+{
+    Ok(match expanded(alloc, feed, row.2, row.3)? {
+        Ok(given) => are_trips(given.as_slice(), row.4),
+        Err(_) => false,
+    })
+}
+
+fn gives(alloc: Global, row: DayRow) -> Result<bool, Fail> {
+    let (trips, rows, _, _, _) = row;
+    if trips.len() >= 100 || rows.len() >= 100 {
+        return Ok(false);
+    }
+    let feed = feed(alloc, trips, rows)?;
+    Ok(has_trips(alloc, &feed, row)?)
+}
+
 #[test]
 fn gives_copies_and_night_trips(rt: HostRuntime) -> Result<(), Fail> {
-    let alloc = rt.alloc();
-    let day = [call(0, 21600, 21600), call(1, 22200, 22200)];
-    let first = [call(0, 28800, 28800), call(1, 29400, 29400)];
-    let second = [call(0, 29700, 29700), call(1, 30300, 30300)];
-    let by_night = [
-        call(0, 85800, 85800),
-        call(1, 86340, 86460),
-        call(0, 87000, 87000),
-    ];
-    let left = [call(1, 0, 60), call(0, 600, 600)];
-    let one_call = [call(0, 85800, 85800), call(1, 87000, 87000)];
-    let tied = [call(0, 0, 60), call(1, 600, 600)];
-    let midnight = [call(0, 0, 0), call(1, 600, 600)];
-    let row = CopyRow {
-        trip: 0,
-        start: 28800,
-        end: 30600,
-        headway: 900,
-    };
-    let late = CopyRow {
-        trip: 0,
-        start: 86340,
-        end: 86401,
-        headway: 60,
-    };
-    assert!(rt; gives(alloc, &[&day], &[], true, true, &[&day])?);
-    assert!(rt; gives(alloc, &[&day], &[row], true, true, &[&first, &second])?);
-    assert!(rt;
-        gives(
-            alloc,
-            &[&second, &first],
-            &[],
-            true,
-            false,
-            &[&first, &second]
-        )?
-    );
-    assert!(rt; gives(alloc, &[&second, &first], &[], false, true, &[])?);
-    assert!(rt; gives(alloc, &[&by_night], &[], false, true, &[&left])?);
-    assert!(rt; gives(alloc, &[&by_night], &[], true, true, &[&left, &by_night])?);
-    assert!(rt; gives(alloc, &[&one_call], &[], false, true, &[])?);
-    assert!(rt;
-        gives(
-            alloc,
-            &[&by_night, &tied],
-            &[],
-            true,
-            true,
-            &[&tied, &left, &by_night]
-        )?
-    );
-    assert!(rt; gives(alloc, &[&day], &[late], false, true, &[&midnight])?);
+    for (i, row) in DAYS.iter().enumerate() {
+        assert!(rt; gives(rt.alloc(), *row)?, "row {i}");
+    }
     Ok(())
+}
+
+fn stopped_by(alloc: Global, row: CopyRow) -> Result<Option<Stopped>, Fail> {
+    let feed = feed(alloc, &[&DAY], &[row])?;
+    Ok(expanded(alloc, &feed, true, false)?.err())
 }
 
 // A row of one copy a second is counted and refused.
 #[test]
 fn refuses_too_many_copies(rt: HostRuntime) -> Result<(), Fail> {
-    let alloc = rt.alloc();
-    let day = [call(0, 21600, 21600), call(1, 22200, 22200)];
     let row = CopyRow {
         trip: 0,
         start: 0,
         end: 3_599_399,
         headway: 1,
     };
-    let feed = feed(alloc, &[&day], &[row])?;
     let refusal = Refusal {
         file: FileKind::Trips,
         row: 0,
         cause: Cause::Limit(3_599_399),
     };
-    match expand(alloc, &feed, &set(alloc, true)?, &set(alloc, false)?) {
-        Ok(_) => Err(Fail::new("not refused")),
-        Err(stop) => {
-            assert_eq!(rt; stop, Stopped::Refused(refusal));
-            Ok(())
-        }
-    }
+    assert_eq!(rt;
+        stopped_by(rt.alloc(), row)?,
+        Some(Stopped::Refused(refusal))
+    );
+    Ok(())
 }

@@ -1,6 +1,6 @@
 // Feeds that are refused, and feeds that are read.
-use gtfs_feed::{Feed, FeedBytes, read_feed};
-use move_model::{Cause, FileKind, Refusal, Stopped};
+use gtfs_feed::{CopyRow, Feed, FeedBytes, FeedStop, Service, read_feed};
+use move_model::{Cause, FileKind, NoMemory, Refusal, Stopped};
 use std::alloc::Global;
 use std::fmt::Write;
 use std::test::Fail;
@@ -334,32 +334,6 @@ const REFUSED: [Refused; 43] = [
     },
 ];
 
-#[test]
-fn refuses(rt: HostRuntime) {
-    for case in &REFUSED {
-        let found = refusal(rt.alloc(), &changed(case.file, case.text));
-        let Refused {
-            file,
-            row,
-            cause,
-            ..
-        } = *case;
-        assert_eq!(rt;
-            found,
-            Some(Refusal { file, row, cause }),
-            "{file:?} row {row}: {cause:?}"
-        );
-    }
-    let mut bytes = base();
-    bytes.dates = None;
-    let none = Refusal {
-        file: FileKind::Calendar,
-        row: 0,
-        cause: Cause::NoCalendar,
-    };
-    assert_eq!(rt; refusal(rt.alloc(), &bytes), Some(none));
-}
-
 const REFUSED_IDS: [Refused; 12] = [
     Refused {
         file: FileKind::Calendar,
@@ -435,46 +409,99 @@ const REFUSED_IDS: [Refused; 12] = [
     },
 ];
 
+// The first case that isn't refused as it should be, and what is told of it.
+fn wrong_case(alloc: Global, cases: &[Refused]) -> Option<(usize, Option<Refusal>)> {
+    for (i, case) in cases.iter().enumerate() {
+        let found = refusal(alloc, &changed(case.file, case.text));
+        let want = Refusal {
+            file: case.file,
+            row: case.row,
+            cause: case.cause,
+        };
+        if found != Some(want) {
+            return Some((i, found));
+        }
+    }
+    None
+}
+
+#[test]
+fn refuses(rt: HostRuntime) {
+    assert_eq!(rt; wrong_case(rt.alloc(), &REFUSED), None);
+}
+
 #[test]
 fn refuses_ids_that_are_long_or_no_text(rt: HostRuntime) {
-    for case in &REFUSED_IDS {
-        let found = refusal(rt.alloc(), &changed(case.file, case.text));
-        let Refused {
-            file,
-            row,
-            cause,
-            ..
-        } = *case;
-        assert_eq!(rt;
-            found,
-            Some(Refusal { file, row, cause }),
-            "{file:?} row {row}: {cause:?}"
-        );
+    assert_eq!(rt; wrong_case(rt.alloc(), &REFUSED_IDS), None);
+}
+
+#[test]
+fn refuses_a_feed_without_days(rt: HostRuntime) {
+    let bytes = FeedBytes {
+        dates: None,
+        ..base()
+    };
+    let none = Refusal {
+        file: FileKind::Calendar,
+        row: 0,
+        cause: Cause::NoCalendar,
+    };
+    assert_eq!(rt; refusal(rt.alloc(), &bytes), Some(none));
+}
+
+fn limit(file: FileKind, count: u64) -> Option<Refusal> {
+    Some(Refusal {
+        file,
+        row: 0,
+        cause: Cause::Limit(count),
+    })
+}
+
+fn many_stops(alloc: Global) -> Result<String, NoMemory> {
+    let mut text = String::from_str(alloc, "stop_id\n")?;
+    for number in 0..200_001u32 {
+        writeln!(text, "{number}")?;
     }
+    Ok(text)
+}
+
+fn refusal_of_many_stops(alloc: Global) -> Result<Option<Refusal>, NoMemory> {
+    let text = many_stops(alloc)?;
+    Ok(refusal(alloc, &changed(FileKind::Stops, text.as_bytes())))
 }
 
 #[test]
 fn refuses_too_many_stops(rt: HostRuntime) -> Result<(), Fail> {
-    let mut text = String::from_str(rt.alloc(), "stop_id\n")?;
-    for number in 0..200_001u32 {
-        writeln!(text, "{number}")?;
-    }
-    let bytes = FeedBytes {
-        stops: text.as_bytes(),
-        calendar: None,
-        dates: None,
-        trips: b"",
-        stop_times: b"",
-        frequencies: None,
-    };
-    let found = refusal(rt.alloc(), &bytes);
-    let limit = Refusal {
-        file: FileKind::Stops,
-        row: 0,
-        cause: Cause::Limit(200_001),
-    };
-    assert_eq!(rt; found, Some(limit));
+    let found = refusal_of_many_stops(rt.alloc())?;
+    assert_eq!(rt; found, limit(FileKind::Stops, 200_001));
     Ok(())
+}
+
+fn push_copies(text: &mut String, lines: &str, count: u32) -> Result<(), NoMemory> {
+    for _i in 0..count {
+        text.push_str(lines)?;
+    }
+    Ok(())
+}
+
+// 50,000 lines of a letter.
+fn lines(alloc: Global) -> Result<String, NoMemory> {
+    let mut lines = String::new(alloc);
+    push_copies(&mut lines, "a\n", 50_000)?;
+    Ok(lines)
+}
+
+// A header and 50,000,001 rows.
+fn many_rows(alloc: Global, header: &str, lines: &str) -> Result<String, NoMemory> {
+    let mut text = String::from_str(alloc, header)?;
+    push_copies(&mut text, lines, 1_000)?;
+    text.push_str("a")?;
+    Ok(text)
+}
+
+fn text_of_many_rows(alloc: Global, header: &str) -> Result<String, NoMemory> {
+    let lines = lines(alloc)?;
+    many_rows(alloc, header, lines.as_str())
 }
 
 // The refusal of a file of 50,000,001 rows.
@@ -482,25 +509,9 @@ fn refusal_of_many_rows(
     alloc: Global,
     file: FileKind,
     header: &str,
-) -> Result<Option<Refusal>, Fail> {
-    let mut rows = String::new(alloc);
-    for _i in 0..50_000 {
-        rows.push_str("a\n")?;
-    }
-    let mut text = String::from_str(alloc, header)?;
-    for _i in 0..1_000 {
-        text.push_str(&rows)?;
-    }
-    text.push_str("a")?;
+) -> Result<Option<Refusal>, NoMemory> {
+    let text = text_of_many_rows(alloc, header)?;
     Ok(refusal(alloc, &changed(file, text.as_bytes())))
-}
-
-fn limit_of_rows(file: FileKind) -> Option<Refusal> {
-    Some(Refusal {
-        file,
-        row: 0,
-        cause: Cause::Limit(50_000_001),
-    })
 }
 
 // The limit on the rows of a file is told before any rule on a row.
@@ -516,7 +527,7 @@ fn refuses_too_many_rows_of_stops_and_days(rt: HostRuntime) -> Result<(), Fail> 
     ];
     for (file, header) in headers {
         let found = refusal_of_many_rows(rt.alloc(), file, header)?;
-        assert_eq!(rt; found, limit_of_rows(file));
+        assert_eq!(rt; found, limit(file, 50_000_001));
     }
     Ok(())
 }
@@ -533,7 +544,7 @@ fn refuses_too_many_rows_of_trips(rt: HostRuntime) -> Result<(), Fail> {
     ];
     for (file, header) in headers {
         let found = refusal_of_many_rows(rt.alloc(), file, header)?;
-        assert_eq!(rt; found, limit_of_rows(file));
+        assert_eq!(rt; found, limit(file, 50_000_001));
     }
     Ok(())
 }
@@ -555,49 +566,77 @@ fn counts(feed: &Feed) -> [usize; 4] {
     ]
 }
 
+fn stop_of(feed: &Feed, trip: usize, call: usize) -> Option<u32> {
+    let trip = feed.trips.get(trip)?;
+    let call = trip.calls.get(call)?;
+    Some(call.stop.0)
+}
+
+fn is_base(feed: &Feed) -> bool {
+    counts(feed) == [4, 1, 2, 0]
+        && times(feed, 1, 1) == Some((30_600, 30_600))
+        && stop_of(feed, 1, 0) == Some(2)
+}
+
+fn reads_base(alloc: Global) -> Option<bool> {
+    let feed = read_feed(alloc, &base()).ok()?;
+    Some(is_base(&feed))
+}
+
 #[test]
 fn reads_the_base(rt: HostRuntime) {
-    let feed = read_feed(rt.alloc(), &base()).expect(&rt, "the base is a feed");
-    assert_eq!(rt; counts(&feed), [4, 1, 2, 0]);
-    assert_eq!(rt; times(&feed, 1, 1), Some((30_600, 30_600)));
-    let stop = feed
-        .trips
-        .get(1)
-        .and_then(|trip| trip.calls.get(0))
-        .map(|call| call.stop.0);
-    assert_eq!(rt; stop, Some(2));
+    assert_eq!(rt; reads_base(rt.alloc()), Some(true));
+}
+
+// A byte order mark, quotes, and a trip in which times are missing.
+fn marked() -> FeedBytes<'static> {
+    FeedBytes {
+        trips: b"service_id,trip_id\nw,t9\n",
+        stop_times: b"\xEF\xBB\xBFstop_sequence,\"trip_id\",stop_id,departure_time,arrival_time\r\n10,\"t9\",A,24:50:00,\r\n20,t9,B,,\r\n30,t9,C,,\r\n40,t9,D,,25:10:00\r\n",
+        ..base()
+    }
+}
+
+fn is_filled(feed: &Feed) -> bool {
+    times(feed, 0, 0) == Some((89_400, 89_400))
+        && times(feed, 0, 1) == Some((89_800, 89_800))
+        && times(feed, 0, 2) == Some((90_200, 90_200))
+        && times(feed, 0, 3) == Some((90_600, 90_600))
+}
+
+fn reads_marked(alloc: Global) -> Option<bool> {
+    let feed = read_feed(alloc, &marked()).ok()?;
+    Some(is_filled(&feed))
 }
 
 #[test]
 fn fills_times_of_a_feed_with_marks(rt: HostRuntime) {
-    let mut bytes = base();
-    bytes.trips = b"service_id,trip_id\nw,t9\n";
-    bytes.stop_times =
-        b"\xEF\xBB\xBFstop_sequence,\"trip_id\",stop_id,departure_time,arrival_time\r\n10,\"t9\",A,24:50:00,\r\n20,t9,B,,\r\n30,t9,C,,\r\n40,t9,D,,25:10:00\r\n";
-    let feed = read_feed(rt.alloc(), &bytes).expect(&rt, "a feed");
-    assert_eq!(rt; times(&feed, 0, 0), Some((89_400, 89_400)));
-    assert_eq!(rt; times(&feed, 0, 1), Some((89_800, 89_800)));
-    assert_eq!(rt; times(&feed, 0, 2), Some((90_200, 90_200)));
-    assert_eq!(rt; times(&feed, 0, 3), Some((90_600, 90_600)));
+    assert_eq!(rt; reads_marked(rt.alloc()), Some(true));
 }
 
-#[test]
-fn reads_headers_alone(rt: HostRuntime) {
-    let bytes = FeedBytes {
+fn headers() -> FeedBytes<'static> {
+    FeedBytes {
         stops: b"stop_id",
         calendar: None,
         dates: Some(b"service_id,date,exception_type\n"),
         trips: b"service_id,trip_id\n",
         stop_times: b"trip_id,arrival_time,departure_time,stop_id,stop_sequence\n",
         frequencies: None,
-    };
-    let feed = read_feed(rt.alloc(), &bytes).expect(&rt, "a feed");
-    assert_eq!(rt; counts(&feed), [0, 0, 0, 0]);
+    }
+}
+
+fn counts_of_headers(alloc: Global) -> Option<[usize; 4]> {
+    let feed = read_feed(alloc, &headers()).ok()?;
+    Some(counts(&feed))
 }
 
 #[test]
-fn reads_an_agency_s_feed(rt: HostRuntime) {
-    let bytes = FeedBytes {
+fn reads_headers_alone(rt: HostRuntime) {
+    assert_eq!(rt; counts_of_headers(rt.alloc()), Some([0, 0, 0, 0]));
+}
+
+fn agency() -> FeedBytes<'static> {
+    FeedBytes {
         stops: b"stop_id,stop_code,stop_name,stop_lat,stop_lon,location_type,parent_station\nS1,,Central,60.170000,24.940000,1,\nP1,001,Central platform 1,60.170100,24.940200,0,S1\nP2,002,Harbour,60.160500,24.955000,,\n",
         calendar: Some(
             b"service_id,monday,tuesday,wednesday,thursday,friday,saturday,sunday,start_date,end_date\nWK,1,1,1,1,1,0,0,20250101,20251231\n",
@@ -606,52 +645,70 @@ fn reads_an_agency_s_feed(rt: HostRuntime) {
         trips: b"route_id,service_id,trip_id,trip_headsign,direction_id\n10,WK,10_0700,Harbour,0\n10,WK,10_0715,Harbour,0\n",
         stop_times: b"trip_id,arrival_time,departure_time,stop_id,stop_sequence,pickup_type,drop_off_type\n10_0700,7:00:00,7:00:00,P1,1,0,1\n10_0700,7:06:00,7:06:00,P2,2,1,0\n10_0715,7:15:00,7:15:00,P1,1,0,1\n10_0715,7:21:00,7:21:00,P2,2,1,0\n",
         frequencies: Some(b"trip_id,start_time,end_time,headway_secs\n"),
-    };
-    let feed = read_feed(rt.alloc(), &bytes).expect(&rt, "a feed");
-    assert_eq!(rt; counts(&feed), [2, 1, 2, 0]);
-    let platform = feed.stops.get(0).map(|stop| (stop.lat, stop.lon, stop.row));
-    assert_eq!(rt; platform, Some((Some(60_170_100), Some(24_940_200), 2)));
-    let week = feed
-        .services
-        .get(0)
-        .map(|service| (service.days, service.first, service.last));
-    assert_eq!(rt;
-        week,
-        Some((
-            [true, true, true, true, true, false, false],
-            20_250_101,
-            20_251_231
-        ))
-    );
-    let call = feed
-        .trips
-        .get(1)
-        .and_then(|trip| trip.calls.get(0))
-        .map(|call| (call.board, call.alight));
-    assert_eq!(rt; call, Some((true, false)));
+    }
+}
+
+fn is_platform(stop: &FeedStop) -> bool {
+    stop.lat == Some(60_170_100) && stop.lon == Some(24_940_200) && stop.row == 2
+}
+
+fn is_week(service: &Service) -> bool {
+    service.days == [true, true, true, true, true, false, false]
+        && service.first == 20_250_101
+        && service.last == 20_251_231
+}
+
+// Whether a call may be boarded at, and left.
+fn flags(feed: &Feed, trip: usize, call: usize) -> Option<(bool, bool)> {
+    let trip = feed.trips.get(trip)?;
+    let call = trip.calls.get(call)?;
+    Some((call.board, call.alight))
+}
+
+fn is_agency(feed: &Feed) -> Option<bool> {
+    let right = is_platform(feed.stops.get(0)?) && is_week(feed.services.get(0)?);
+    Some(right && counts(feed) == [2, 1, 2, 0] && flags(feed, 1, 0) == Some((true, false)))
+}
+
+fn reads_agency(alloc: Global) -> Option<bool> {
+    let feed = read_feed(alloc, &agency()).ok()?;
+    is_agency(&feed)
+}
+
+#[test]
+fn reads_an_agency_s_feed(rt: HostRuntime) {
+    assert_eq!(rt; reads_agency(rt.alloc()), Some(true));
+}
+
+fn calendars() -> FeedBytes<'static> {
+    FeedBytes {
+        calendar: Some(
+            b"service_id,monday,tuesday,wednesday,thursday,friday,saturday,sunday,start_date,end_date\nv,0,0,0,0,0,0,0,20250101,20251231\n",
+        ),
+        dates: Some(
+            b"service_id,date,exception_type\nw,20250303,1\nw,20250304,2\nv,20250305,1\nw,20250306,1\n",
+        ),
+        frequencies: Some(b"trip_id,start_time,end_time,headway_secs\nt1,08:00:00,08:30:00,900\n"),
+        ..base()
+    }
+}
+
+fn is_copy(copy: &CopyRow) -> bool {
+    copy.trip == 0 && copy.start == 28_800 && copy.end == 30_600 && copy.headway == 900
+}
+
+fn has_calendars(feed: &Feed) -> Option<bool> {
+    let added = feed.services.get(1)?.added.as_slice();
+    let right = added == [20_250_303, 20_250_306].as_slice() && is_copy(feed.copies.get(0)?);
+    Some(right && counts(feed) == [4, 2, 2, 1] && feed.trips.get(0)?.service == Some(1))
+}
+
+fn reads_calendars(alloc: Global) -> Option<bool> {
+    let feed = read_feed(alloc, &calendars()).ok()?;
+    has_calendars(&feed)
 }
 
 #[test]
 fn reads_calendars_and_copies(rt: HostRuntime) {
-    let mut bytes = changed(
-        FileKind::Frequencies,
-        b"trip_id,start_time,end_time,headway_secs\nt1,08:00:00,08:30:00,900\n",
-    );
-    bytes.calendar = Some(
-        b"service_id,monday,tuesday,wednesday,thursday,friday,saturday,sunday,start_date,end_date\nv,0,0,0,0,0,0,0,20250101,20251231\n",
-    );
-    bytes.dates = Some(
-        b"service_id,date,exception_type\nw,20250303,1\nw,20250304,2\nv,20250305,1\nw,20250306,1\n",
-    );
-    let feed = read_feed(rt.alloc(), &bytes).expect(&rt, "a feed");
-    assert_eq!(rt; counts(&feed), [4, 2, 2, 1]);
-    let added = feed.services.get(1).map(|service| service.added.as_slice());
-    assert_eq!(rt; added.unwrap_or(&[]), [20_250_303, 20_250_306].as_slice());
-    let served = feed.trips.get(0).and_then(|trip| trip.service);
-    assert_eq!(rt; served, Some(1));
-    let copy = feed
-        .copies
-        .get(0)
-        .map(|copy| (copy.trip, copy.start, copy.end, copy.headway));
-    assert_eq!(rt; copy, Some((0, 28_800, 30_600, 900)));
+    assert_eq!(rt; reads_calendars(rt.alloc()), Some(true));
 }

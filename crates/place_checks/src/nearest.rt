@@ -28,40 +28,39 @@ fn number_at(alloc: Global, points: &Points, at: PointRow, scale: u16) -> Result
     Ok(number)
 }
 
-fn near(alloc: Global, rows: &[PointRow], at: PointRow, scale: u16) -> Result<u32, NoMemory> {
-    number_at(alloc, &points_of(alloc, rows)?, at, scale)
+// Points, a place, a scale, and the number of the vertex nearest to the place.
+type Row = (&'static [PointRow], PointRow, u16, u32);
+
+const POLES: [PointRow; 2] = [(-90_000_000, -180_000_000), (90_000_000, 180_000_000)];
+
+const ROWS: [Row; 9] = [
+    (&[(10, 0), (-10, 0)], (0, 0), 1000, 1),
+    (&[(0, 20), (11, 0)], (0, 0), 500, 1),
+    (&[(5, 0), (4, 180_000_000)], (0, 0), 0, 2),
+    // at the ends
+    (&[(7, 7)], (-90_000_000, 180_000_000), 1000, 1),
+    (&POLES, (0, 0), 1000, 1),
+    (&POLES, (1, 0), 1000, 2),
+    (&POLES, (0, 1), 1000, 2),
+    (&POLES, (0, 1), 0, 1),
+    (
+        &[(i32::MIN, i32::MIN), (i32::MAX, i32::MAX)],
+        (0, 0),
+        1000,
+        2,
+    ),
+];
+
+fn near(alloc: Global, row: Row) -> Result<u32, NoMemory> {
+    let points = points_of(alloc, row.0)?;
+    number_at(alloc, &points, row.1, row.2)
 }
 
 #[test]
-fn finds_the_nearest_of_two(rt: HostRuntime) -> Result<(), Fail> {
-    let alloc = rt.alloc();
-    assert_eq!(rt; near(alloc, &[(10, 0), (-10, 0)], (0, 0), 1000)?, 1);
-    assert_eq!(rt; near(alloc, &[(0, 20), (11, 0)], (0, 0), 500)?, 1);
-    assert_eq!(rt; near(alloc, &[(5, 0), (4, 180_000_000)], (0, 0), 0)?, 2);
-    Ok(())
-}
-
-#[test]
-fn finds_the_nearest_at_the_ends(rt: HostRuntime) -> Result<(), Fail> {
-    let alloc = rt.alloc();
-    assert_eq!(rt;
-        near(alloc, &[(7, 7)], (-90_000_000, 180_000_000), 1000)?,
-        1
-    );
-    let poles = [(-90_000_000, -180_000_000), (90_000_000, 180_000_000)];
-    assert_eq!(rt; near(alloc, &poles, (0, 0), 1000)?, 1);
-    assert_eq!(rt; near(alloc, &poles, (1, 0), 1000)?, 2);
-    assert_eq!(rt; near(alloc, &poles, (0, 1), 1000)?, 2);
-    assert_eq!(rt; near(alloc, &poles, (0, 1), 0)?, 1);
-    assert_eq!(rt;
-        near(
-            alloc,
-            &[(i32::MIN, i32::MIN), (i32::MAX, i32::MAX)],
-            (0, 0),
-            1000
-        )?,
-        2
-    );
+fn finds_the_nearest(rt: HostRuntime) -> Result<(), Fail> {
+    for (i, row) in ROWS.iter().enumerate() {
+        assert_eq!(rt; near(rt.alloc(), *row)?, row.3, "row {i}");
+    }
     Ok(())
 }
 
@@ -109,43 +108,56 @@ fn plain_number(points: &[Point], at: PointRow, scale: u16) -> u32 {
     first
 }
 
-/// How many of thirty places have another nearest vertex than the plain minimum, over so many points.
-fn differences(alloc: Global, count: u32, scale: u16) -> Result<u32, NoMemory> {
-    let mut numbers = Numbers {
-        state: u64::from(count),
-    };
+fn places(alloc: Global, numbers: &mut Numbers, count: u32) -> Result<Points, NoMemory> {
     let mut points = Points::new(alloc);
     for _ in 0..count {
         let (lat, lon) = numbers.place();
         points.push(Point { lat, lon })?;
     }
+    Ok(points)
+}
+
+fn differences_at(
+    alloc: Global,
+    points: &Points,
+    numbers: &mut Numbers,
+    scale: u16,
+) -> Result<u32, NoMemory> {
     let mut differences = 0u32;
     for _ in 0..30 {
         let at = numbers.place();
-        if number_at(alloc, &points, at, scale)? != plain_number(points.as_slice(), at, scale) {
+        if number_at(alloc, points, at, scale)? != plain_number(points.as_slice(), at, scale) {
             differences = differences.wrapping_add(1);
         }
     }
     Ok(differences)
 }
 
+/// How many of thirty places have another nearest vertex than the plain minimum, over so many points.
+fn differences(alloc: Global, count: u32, scale: u16) -> Result<u32, NoMemory> {
+    let mut numbers = Numbers {
+        state: u64::from(count),
+    };
+    let points = places(alloc, &mut numbers, count)?;
+    differences_at(alloc, &points, &mut numbers, scale)
+}
+
+// How many differ at each of three scales.
+fn differences_over(alloc: Global, count: u32) -> Result<[u32; 3], NoMemory> {
+    Ok([
+        differences(alloc, count, 0)?,
+        differences(alloc, count, 1)?,
+        differences(alloc, count, 1000)?,
+    ])
+}
+
 #[test]
 fn agrees_with_the_plain_minimum(rt: HostRuntime) -> Result<(), Fail> {
     for count in [1u32, 7, 8, 9, 64, 65, 600] {
         assert_eq!(rt;
-            differences(rt.alloc(), count, 0)?,
-            0,
-            "{count} points, scale 0"
-        );
-        assert_eq!(rt;
-            differences(rt.alloc(), count, 1)?,
-            0,
-            "{count} points, scale 1"
-        );
-        assert_eq!(rt;
-            differences(rt.alloc(), count, 1000)?,
-            0,
-            "{count} points, scale 1000"
+            differences_over(rt.alloc(), count)?,
+            [0, 0, 0],
+            "{count} points"
         );
     }
     Ok(())

@@ -1,9 +1,10 @@
 // The sample: two trips that a walk joins, and spoiled copies of its journeys.
-use move_model::{
-    Arc, Call, Journey, Key, List, Name, Network, NodeNo, Ride, Stop, StopNo, Trip, TripNo,
-};
+ghost use Rattle.std.specs.Prelude.{◌<◌};
+
+use crate::samples::{T1, T2, call_at, network_of, trip_of, trips_of};
+use move_model::{Call, Journey, Key, List, Network, NoMemory, NodeNo, Ride, TripNo, Trips, Walks};
 use pareto_laws::{is_journey, key_less};
-use std::alloc::{AllocError, Global};
+use std::alloc::Global;
 use std::test::Fail;
 
 const A: NodeNo = NodeNo(1);
@@ -16,71 +17,36 @@ const D: NodeNo = NodeNo(4);
 
 const OUTSIDE: NodeNo = NodeNo(5);
 
-fn arc(from: NodeNo, to: NodeNo, seconds: u32) -> Arc {
-    Arc { from, to, seconds }
+// Trip 0 leaves stop 0 at 08:00 and reaches stop 1 at 08:10, trip 1 leaves stop 2 at 08:15 and reaches stop 3 at 08:30.
+// Trips 2 and 3 do so a minute and two later, but trip 2 may not be boarded, and trip 3 may not be left.
+fn trips(alloc: Global) -> Result<Trips, NoMemory> {
+    let closed = Call {
+        board: false,
+        ..call_at(2, 29760)
+    };
+    let kept = Call {
+        alight: false,
+        ..call_at(3, 30720)
+    };
+    let mut trips = trips_of(alloc, &[T1, T2])?;
+    trips.push(trip_of(alloc, closed, call_at(3, 30660))?)?;
+    trips.push(trip_of(alloc, call_at(2, 29820), kept)?)?;
+    Ok(trips)
 }
 
-fn call(stop: u32, second: u32, board: bool, alight: bool) -> Call {
-    Call {
-        stop: StopNo(stop),
-        arr: second,
-        dep: second,
-        board,
-        alight,
-    }
+// Stops 0 to 3 stand at vertices 1 to 4.
+fn sample(alloc: Global, buffer: u32) -> Result<Network, NoMemory> {
+    let mut network = network_of(alloc, 240, &[1, 2, 3, 4], trips(alloc)?)?;
+    network.buffer = buffer;
+    Ok(network)
 }
 
-// Stops 0 to 3 stand at vertices 1 to 4. Trip 0 leaves stop 0 at 08:00 and reaches stop 1 at 08:10,
-// trip 1 leaves stop 2 at 08:15 and reaches stop 3 at 08:30. Trips 2 and 3 do so a minute and two
-// later, but trip 2 may not be boarded, and trip 3 may not be left.
-fn sample(alloc: Global, buffer: u32) -> Result<Network, AllocError> {
-    let mut stops = List::new(alloc);
-    for node in [A, B, C, D] {
-        let name = Name::new(alloc);
-        stops.push(Stop { node, name })?;
-    }
-    let mut trips = List::new(alloc);
-    for calls in [
-        [call(0, 28800, true, true), call(1, 29400, true, true)],
-        [call(2, 29700, true, true), call(3, 30600, true, true)],
-        [call(2, 29760, false, true), call(3, 30660, true, true)],
-        [call(2, 29820, true, true), call(3, 30720, true, false)],
-    ] {
-        let calls = List::from_slice(alloc, &calls)?;
-        let name = Name::new(alloc);
-        trips.push(Trip { name, calls })?;
-    }
-    let arcs = [
-        arc(B, C, 240),
-        arc(C, B, 240),
-        arc(A, D, 7200),
-        arc(D, A, 7200),
-    ];
-    Ok(Network {
-        nodes: 4,
-        arcs: List::from_slice(alloc, &arcs)?,
-        stops,
-        trips,
-        buffer,
-    })
-}
-
-fn journey(
-    alloc: Global,
-    depart: u32,
-    vertices: &[&[NodeNo]],
-    rides: &[Ride],
-) -> Result<Journey, AllocError> {
-    let mut walks = List::new(alloc);
+fn walks_of(alloc: Global, vertices: &[&[NodeNo]]) -> Result<Walks, NoMemory> {
+    let mut walks = Walks::new(alloc);
     for walk in vertices {
         walks.push(List::from_slice(alloc, walk)?)?;
     }
-    let rides = List::from_slice(alloc, rides)?;
-    Ok(Journey {
-        depart,
-        walks,
-        rides,
-    })
+    Ok(walks)
 }
 
 const FIRST: Ride = Ride {
@@ -132,7 +98,15 @@ const NOT_LEFT: Ride = Ride {
 };
 
 // The buffer, the second of departure, the walks and the rides, and whether they are a journey.
-const CASES: [(u32, u32, &[&[NodeNo]], &[Ride], bool); 24] = [
+type Case = (
+    u32,
+    u32,
+    &'static [&'static [NodeNo]],
+    &'static [Ride],
+    bool,
+);
+
+const CASES: [Case; 24] = [
     (0, 28500, &[&[A], &[B, C], &[D]], &[FIRST, SECOND], true),
     (0, 28800, &[&[A], &[B, C], &[D]], &[FIRST, SECOND], true),
     (60, 28740, &[&[A], &[B, C], &[D]], &[FIRST, SECOND], true),
@@ -169,13 +143,30 @@ const CASES: [(u32, u32, &[&[NodeNo]], &[Ride], bool); 24] = [
     (0, 28500, &[&[C], &[D]], &[NOT_LEFT], false),
 ];
 
+fn journey_of(alloc: Global, case: Case) -> Result<Journey, NoMemory> {
+    let (_, depart, walks, rides, _) = case;
+    let walks = walks_of(alloc, walks)?;
+    Ok(Journey {
+        depart,
+        walks,
+        rides: List::from_slice(alloc, rides)?,
+    })
+}
+
+fn is_right(alloc: Global, network: &Network, case: Case) -> Result<bool, NoMemory> {
+    let journey = journey_of(alloc, case)?;
+    Ok(is_journey(network, &journey) == case.4)
+}
+
+fn holds(alloc: Global, case: Case) -> Result<bool, NoMemory> {
+    let network = sample(alloc, case.0)?;
+    is_right(alloc, &network, case)
+}
+
 #[test]
 fn journeys(rt: HostRuntime) -> Result<(), Fail> {
-    let alloc = rt.alloc();
-    for (i, (buffer, depart, walks, rides, want)) in CASES.iter().enumerate() {
-        let network = sample(alloc, *buffer)?;
-        let value = journey(alloc, *depart, walks, rides)?;
-        assert_eq!(rt; is_journey(&network, &value), *want, "case {i}");
+    for (i, case) in CASES.iter().enumerate() {
+        assert!(rt; holds(rt.alloc(), *case)?, "case {i}");
     }
     Ok(())
 }
@@ -193,18 +184,30 @@ fn key(entries: &[u32; 8]) -> Key {
     }
 }
 
+// Entries that are greater than 5 but equal before the first that is less.
+fn less_at(first: usize) -> [u32; 8]
+    requires { first < 8 }
+{
+    let mut less = [9; 8];
+    for before in 0..first {
+        less[before] = 5;
+    }
+    less[first] = 4;
+    less
+}
+
+// Whether two keys are less than one another, each than the other.
+fn order_of(one: &[u32; 8], other: &[u32; 8]) -> (bool, bool) {
+    let (one, other) = (key(one), key(other));
+    (key_less(&one, &other), key_less(&other, &one))
+}
+
 // The first entry that differs decides, whatever stands behind it.
 #[test]
 fn keys(rt: HostRuntime) {
     let equal = [5; 8];
-    assert!(rt; !key_less(&key(&equal), &key(&equal)));
+    assert_eq!(rt; order_of(&equal, &equal), (false, false));
     for first in 0..8 {
-        let mut less = [9; 8];
-        for before in 0..first {
-            less[before] = 5;
-        }
-        less[first] = 4;
-        assert!(rt; key_less(&key(&less), &key(&equal)), "{first}");
-        assert!(rt; !key_less(&key(&equal), &key(&less)), "{first}");
+        assert_eq!(rt; order_of(&less_at(first), &equal), (true, false), "{first}");
     }
 }

@@ -12,3 +12,5 @@ mod plain;
 mod rounds;
 #[cfg(test)]
 mod routes;
+#[cfg(test)]
+mod samples;

@@ -1,60 +1,22 @@
 // Routes of small days, by rows worked by hand and against a plain split.
-ghost use Rattle.std.specs.Prelude.{◌≡◌, ◌-◌, ◌<◌, ◌^◌, length, slice_get, All, IfOk, IsTrue, Some};
-ghost use Rattle.route_split.specs.Route.{IsRoute};
+ghost use Rattle.std.specs.Prelude.{◌≡◌, ◌<◌, ◌^◌, length, replicate, false, IfOk};
+ghost use Rattle.route_split.specs.Route.{IsRoute, NeverFalls};
 
-use move_model::{Arcs, Call, Calls, List, Network, NoMemory, NodeNo, Stop, StopNo, Trip, Trips};
+use crate::samples::{T1, T2, T3, TripRow, network_of, table_of, trip_of, trips_of};
+use move_model::{Call, Network, NoMemory, StopNo, Trip, Trips};
 use route_split::*;
 use std::alloc::Global;
 use std::marker::Brand;
-use std::process::Abort;
 use std::sync::ledger::{Blank, Ledger};
 use std::test::Fail;
 use steps::Steps;
 
-/// A trip of two calls: a stop and the second there, and another stop and the second there.
-type TripRow = (u32, u32, u32, u32);
-
 /// A route and a trip in it, both by their numbers.
 type Member = (u32, u32);
 
-const T1: TripRow = (0, 28800, 1, 29400);
-
-const T2: TripRow = (2, 29700, 3, 30600);
-
-const T3: TripRow = (0, 28860, 1, 29340);
-
-fn trip_of(alloc: Global, first: Call, second: Call) -> Result<Trip, NoMemory> {
-    let mut calls = Calls::new(alloc);
-    calls.push(first)?;
-    calls.push(second)?;
-    Ok(Trip {
-        name: List::new(alloc),
-        calls,
-    })
-}
-
-fn call_at(stop: u32, second: u32) -> Call {
-    Call {
-        stop: StopNo(stop),
-        arr: second,
-        dep: second,
-        board: true,
-        alight: true,
-    }
-}
-
-fn trips_of(alloc: Global, rows: &[TripRow]) -> Result<Trips, NoMemory> {
-    let mut trips = List::new(alloc);
-    for (from, leaves, to, comes) in rows {
-        let (first, second) = (call_at(*from, *leaves), call_at(*to, *comes));
-        trips.push(trip_of(alloc, first, second)?)?;
-    }
-    Ok(trips)
-}
-
 // Trips over two stops with few seconds, in their order: many tie, many overtake, and their flags differ.
 fn generated(alloc: Global, seed: u32) -> Result<Trips, NoMemory> {
-    let mut trips = List::new(alloc);
+    let mut trips = Trips::new(alloc);
     let mut state = seed;
     for code in 0..768u32 {
         state = state.wrapping_mul(1_664_525).wrapping_add(1_013_904_223);
@@ -78,50 +40,6 @@ fn generated(alloc: Global, seed: u32) -> Result<Trips, NoMemory> {
         }
     }
     Ok(trips)
-}
-
-// Whether each trip has few calls.
-fn have_few_calls(trips: &[Trip]) -> bool
-    ensures { IsTrue result → All (λ trip. length trip.calls < 2 ^ 32 - 1) trips.now }
-{
-    for i in 0..trips.len() {
-        if trips[i].calls.len() >= 4_294_967_295 {
-            return false;
-        }
-    }
-    true
-}
-
-// The trips at four stops, if they keep the rules of a network.
-fn network_of(alloc: Global, trips: Trips) -> Result<Network, NoMemory> {
-    let mut stops = List::new(alloc);
-    for _i in 0..4 {
-        stops.push(Stop {
-            node: NodeNo(1),
-            name: List::new(alloc),
-        })?;
-    }
-    Ok(Network {
-        nodes: 1,
-        arcs: Arcs::new(alloc),
-        stops,
-        trips,
-        buffer: 0,
-    })
-}
-
-// The table of a network, or None where it breaks a rule.
-fn table_of(alloc: Global, n: &Network, buffer: u32) -> Result<Option<Timetable>, NoMemory> {
-    let few = n.trips.len() < 1000 && n.stops.len() < 9 && n.arcs.is_empty();
-    if !few || !have_few_calls(n.trips.as_slice()) {
-        return Ok(None);
-    }
-    if n.check().is_err() {
-        return Ok(None);
-    }
-    let stops = n.stops.len() as u32;
-    let table = Timetable::with_buffer(alloc, &n.trips, stops, buffer)?;
-    Ok(Some(table))
 }
 
 // The rows of a route, opened with marks of their own.
@@ -207,85 +125,170 @@ fn flattened(alloc: Global, groups: &[Vec<u32>]) -> Result<Vec<Member>, NoMemory
     Ok(members)
 }
 
+fn are_members(alloc: Global, table: &Timetable, want: &[Member]) -> Result<bool, NoMemory> {
+    let got = members(alloc, table)?;
+    Ok(got.as_slice() == want)
+}
+
+fn are_groups(alloc: Global, table: &Timetable, groups: &[Vec<u32>]) -> Result<bool, NoMemory> {
+    if groups.len() <= 20 || groups.len() >= 100 {
+        return Ok(false);
+    }
+    let want = flattened(alloc, groups)?;
+    are_members(alloc, table, want.as_slice())
+}
+
+// Whether a table has many trips, and the groups of a plain split.
+fn is_plain(alloc: Global, table: &Timetable, trips: &[Trip]) -> Result<bool, NoMemory> {
+    if trips.len() <= 200 || trips.len() >= 1000 {
+        return Ok(false);
+    }
+    let groups = plain_groups(alloc, trips)?;
+    are_groups(alloc, table, groups.as_slice())
+}
+
+fn is_split(alloc: Global, network: &Network) -> Result<Option<bool>, NoMemory> {
+    let Some(table) = table_of(alloc, network, 0)? else {
+        return Ok(None);
+    };
+    Ok(Some(is_plain(alloc, &table, network.trips.as_slice())?))
+}
+
+// None where the generated day breaks a rule.
+fn splits(alloc: Global, seed: u32) -> Result<Option<bool>, NoMemory> {
+    let network = network_of(alloc, 240, &[1, 2, 3, 4], generated(alloc, seed)?)?;
+    is_split(alloc, &network)
+}
+
 #[test]
 fn splits_as_a_plain_split(rt: HostRuntime) -> Result<(), Fail> {
-    let alloc = rt.alloc();
     for seed in [1, 2, 3] {
-        let n = network_of(alloc, generated(alloc, seed)?)?;
-        let Some(table) = table_of(alloc, &n, 0)? else {
-            panic!(rt; "a generated day breaks a rule");
-        };
-        assert!(rt; n.trips.len() > 200 && n.trips.len() < 1000);
-        let groups = plain_groups(alloc, n.trips.as_slice())?;
-        assert!(rt; groups.len() > 20 && groups.len() < 100);
-        let want = flattened(alloc, groups.as_slice())?;
-        let got = members(alloc, &table)?;
-        assert!(rt; got.as_slice() == want.as_slice(), "with the seed {seed}");
+        assert_eq!(rt;
+            splits(rt.alloc(), seed)?,
+            Some(true),
+            "with the seed {seed}"
+        );
     }
     Ok(())
+}
+
+const DAYS: [(&[TripRow], &[Member]); 3] = [
+    (&[T1, T2], &[(0, 0), (1, 1)]),
+    (&[T1, T3, T2], &[(0, 0), (1, 1), (2, 2)]),
+    (&[T1, T1, T2], &[(0, 0), (0, 1), (1, 2)]),
+];
+
+fn has_members(
+    alloc: Global,
+    network: &Network,
+    want: &[Member],
+) -> Result<Option<bool>, NoMemory> {
+    let Some(table) = table_of(alloc, network, 0)? else {
+        return Ok(None);
+    };
+    Ok(Some(are_members(alloc, &table, want)?))
+}
+
+// None where the day breaks a rule.
+fn gives(alloc: Global, rows: &[TripRow], want: &[Member]) -> Result<Option<bool>, NoMemory> {
+    let network = network_of(alloc, 240, &[1, 2, 3, 4], trips_of(alloc, rows)?)?;
+    has_members(alloc, &network, want)
 }
 
 #[test]
 fn splits_a_trip_that_overtakes(rt: HostRuntime) -> Result<(), Fail> {
-    let alloc = rt.alloc();
-    let days: [(&[TripRow], &[Member]); 3] = [
-        (&[T1, T2], &[(0, 0), (1, 1)]),
-        (&[T1, T3, T2], &[(0, 0), (1, 1), (2, 2)]),
-        (&[T1, T1, T2], &[(0, 0), (0, 1), (1, 2)]),
-    ];
-    for (rows, want) in days {
-        let n = network_of(alloc, trips_of(alloc, rows)?)?;
-        let Some(table) = table_of(alloc, &n, 0)? else {
-            panic!(rt; "a day breaks a rule");
-        };
-        assert!(rt; members(alloc, &table)?.as_slice() == want);
+    for (i, (rows, want)) in DAYS.iter().enumerate() {
+        assert_eq!(rt; gives(rt.alloc(), rows, want)?, Some(true), "day {i}");
     }
     Ok(())
 }
 
-// Sees what the first route of the sample lends, and that its marks and the calls at its stops are right.
-fn expect_sample<L: Ledger>(
-    rt: &impl Abort,
-    alloc: Global,
+fn catches(departs: &[u32]) -> [Option<usize>; 4]
+    requires { NeverFalls departs.now }
+{
+    [
+        catch(departs, 0),
+        catch(departs, 28800),
+        catch(departs, 28801),
+        catch(departs, u64::MAX),
+    ]
+}
+
+// Whether a route has the rows of the first trip of the sample.
+fn are_rows(rows: &RouteRows, stops: u32) -> bool
+    requires { IsRoute stops rows.now }
+{
+    rows.calls() == 2
+        && rows.arrives(1) == [29400].as_slice()
+        && rows.departs(1) == [29400].as_slice()
+        && rows.stop(1) == StopNo(1)
+        && rows.board(1)
+        && rows.alight(1)
+        && rows.departs(0) == [28800].as_slice()
+        && catches(rows.departs(0)) == [Some(0), Some(0), None, None]
+}
+
+// Whether the marks tell that the first route is opened until they are cleared, and whether its rows are right.
+fn opens_first<L: Ledger>(
     table: &Timetable,
+    marks: &mut RoundMarks,
     opens: Blank,
-) -> Result<(), Fail>
-    requires stops { table.now.stops ≡ 4 }
-    requires routes { length table.now.routes ≡ 2 }
+) -> (bool, bool, bool, bool)
+    requires two { length table.now.routes ≡ 2 }
+    requires marks { marks.old ≡ replicate 2 false }
     requires name { opens.name ≡ L.name }
     requires parts { opens.parts ≡ L.parts }
     requires some { 0 < opens.parts }
 {
-    assert_eq!(rt; (table.routes(), table.stops(), table.buffer()), (2, 4, 60));
-    let at_b = [RouteCall { route: 0, call: 1 }];
-    assert!(rt; table.at_stop(StopNo(1)) == at_b.as_slice());
-    let mut marks = RoundMarks::new(alloc, table)?;
     let mut opens = Steps::<L>::new(opens);
-    let rows = table.open_route(0, &mut marks, &mut opens);
-    assert!(rt; marks.marked(0) && !marks.marked(1));
+    let rows = table.open_route(0, marks, &mut opens);
+    let (first, second) = (marks.marked(0), marks.marked(1));
     marks.clear();
-    assert!(rt; !marks.marked(0));
-    if rows.calls() != 2 {
-        panic!(rt; "the route has not two calls");
+    (
+        first,
+        second,
+        marks.marked(0),
+        are_rows(&rows, table.stops()),
+    )
+}
+
+fn lends(alloc: Global, table: &Timetable) -> Result<(bool, bool, bool, bool), NoMemory>
+    requires { length table.now.routes ≡ 2 }
+{
+    let mut marks = RoundMarks::new(alloc, table)?;
+    Ok(opens_first::<Brand>(table, &mut marks, Blank::new(1)))
+}
+
+// Whether a table has the routes, the stops, the buffer and the calls of the sample.
+fn is_sample(table: &Timetable) -> bool
+    requires { table.now.stops ≡ 4 }
+{
+    table.routes() == 2
+        && table.buffer() == 60
+        && table.at_stop(StopNo(1)) == [RouteCall { route: 0, call: 1 }].as_slice()
+}
+
+type Lent = Option<(bool, bool, bool, bool)>;
+
+// None where the sample breaks a rule, or its table has other routes.
+fn lends_in(alloc: Global, network: &Network) -> Result<Lent, NoMemory> {
+    let Some(table) = table_of(alloc, network, 60)? else {
+        return Ok(None);
+    };
+    if !is_sample(&table) || table.routes() != 2 {
+        return Ok(None);
     }
-    assert!(rt; rows.arrives(1) == [29400].as_slice() && rows.departs(1) == [29400].as_slice());
-    assert!(rt; rows.stop(1) == StopNo(1) && rows.board(1) && rows.alight(1));
-    let departs = rows.departs(0);
-    assert!(rt; departs == [28800].as_slice());
-    assert!(rt; catch(departs, 28800) == Some(0) && catch(departs, 28801) == None);
-    assert!(rt; catch(departs, u64::MAX) == None && catch(departs, 0) == Some(0));
-    Ok(())
+    Ok(Some(lends(alloc, &table)?))
+}
+
+fn lends_in_sample(alloc: Global) -> Result<Lent, NoMemory> {
+    let network = network_of(alloc, 240, &[1, 2, 3, 4], trips_of(alloc, &[T1, T2])?)?;
+    lends_in(alloc, &network)
 }
 
 #[test]
 fn lends_the_rows_of_the_sample(rt: HostRuntime) -> Result<(), Fail> {
-    let alloc = rt.alloc();
-    let n = network_of(alloc, trips_of(alloc, &[T1, T2])?)?;
-    let Some(table) = table_of(alloc, &n, 60)? else {
-        panic!(rt; "the sample breaks a rule");
-    };
-    if table.stops() != 4 || table.routes() != 2 {
-        panic!(rt; "the sample has other stops or routes");
-    }
-    expect_sample::<Brand>(&rt, alloc, &table, Blank::new(1))
+    let lent = lends_in_sample(rt.alloc())?;
+    assert_eq!(rt; lent, Some((true, false, false, true)));
+    Ok(())
 }

@@ -10,6 +10,30 @@ use std::sync::ledger::Ledger;
 use steps::Steps;
 use walk_order::{Hierarchy, Work, distance, path, search_down, search_up};
 
+// What is wrong about the vertices of a walk, or about no walk.
+fn path_difference(
+    arcs: &[Arc],
+    walk: Option<&[NodeNo]>,
+    a: NodeNo,
+    b: NodeNo,
+    want: Option<u64>,
+) -> Option<Difference> {
+    let Some(walk) = walk else {
+        return match want {
+            Some(_) => Some(Difference::Path(a, b)),
+            None => None,
+        };
+    };
+    let seconds = walk_seconds(arcs, walk, a, b);
+    if seconds.is_none() || seconds != want {
+        return Some(Difference::Path(a, b));
+    }
+    if comes_twice(walk) {
+        return Some(Difference::Circle(a, b));
+    }
+    None
+}
+
 // Compares the distance and the walk between two vertices.
 fn pair_difference<L: Ledger>(
     alloc: Global,
@@ -31,21 +55,11 @@ fn pair_difference<L: Ledger>(
         return Ok(Some(Difference::Distance(a, b)));
     }
     let walk = path(alloc, hierarchy, a, b, work, searches)?;
-    let seconds = match &walk {
-        Some(walk) => walk_seconds(arcs, walk.as_slice(), a, b),
-        None => None,
+    let found = match &walk {
+        Some(walk) => path_difference(arcs, Some(walk.as_slice()), a, b, want),
+        None => path_difference(arcs, None, a, b, want),
     };
-    if walk.is_some() != want.is_some() || seconds != want {
-        return Ok(Some(Difference::Path(a, b)));
-    }
-    let twice = match &walk {
-        Some(walk) => comes_twice(walk.as_slice()),
-        None => false,
-    };
-    if twice {
-        return Ok(Some(Difference::Circle(a, b)));
-    }
-    Ok(None)
+    Ok(found)
 }
 
 // Compares the distances and the walks from a vertex.
@@ -72,6 +86,26 @@ fn row_difference<L: Ledger>(
     Ok(None)
 }
 
+fn rows_difference<L: Ledger>(
+    alloc: Global,
+    arcs: &[Arc],
+    hierarchy: &Hierarchy,
+    plain: &Distances,
+    work: &mut Work,
+    searches: &mut Steps<L>,
+) -> Result<Option<Difference>, NoMemory>
+    requires { work.old.nodes ≡ length hierarchy.now.ranks }
+{
+    for place in 0..hierarchy.nodes() {
+        let a = NodeNo(place + 1);
+        let found = row_difference(alloc, arcs, hierarchy, plain, a, work, searches)?;
+        if found.is_some() {
+            return Ok(found);
+        }
+    }
+    Ok(None)
+}
+
 /// The first two vertices between which the distance or the walk differs.
 pub fn walk_difference<L: Ledger>(
     alloc: Global,
@@ -81,14 +115,7 @@ pub fn walk_difference<L: Ledger>(
     searches: &mut Steps<L>,
 ) -> Result<Option<Difference>, NoMemory> {
     let mut work = Work::new(alloc, hierarchy)?;
-    for place in 0..hierarchy.nodes() {
-        let a = NodeNo(place + 1);
-        let found = row_difference(alloc, arcs, hierarchy, plain, a, &mut work, searches)?;
-        if found.is_some() {
-            return Ok(found);
-        }
-    }
-    Ok(None)
+    rows_difference(alloc, arcs, hierarchy, plain, &mut work, searches)
 }
 
 // The sums of all searches one way, by vertex.
@@ -136,50 +163,57 @@ fn are_sums(
     true
 }
 
-// The sums up from each vertex, or the first vertex at which they are wrong.
-fn sums_up<L: Ledger>(
-    alloc: Global,
-    hierarchy: &Hierarchy,
-    plain: &Distances,
-    searches: &mut Steps<L>,
-) -> Result<Result<Sums, Difference>, NoMemory> {
-    let mut work = Work::new(alloc, hierarchy)?;
-    let mut all = Vec::new(alloc);
-    let nodes = hierarchy.nodes();
-    for place in 0..nodes {
-        let at = NodeNo(place + 1);
-        search_up(hierarchy, at, &mut work, searches);
-        let Some(sums) = by_vertex(alloc, nodes, work.settled())? else {
-            return Ok(Err(Difference::Up(at)));
-        };
-        if !are_sums(hierarchy, plain, at, sums.as_slice(), true) {
-            return Ok(Err(Difference::Up(at)));
-        }
-        all.push(sums)?;
+// The vertex at which the sums one way are wrong.
+fn wrong(at: NodeNo, is_up: bool) -> Difference {
+    if is_up {
+        Difference::Up(at)
+    } else {
+        Difference::Down(at)
     }
-    Ok(Ok(all))
 }
 
-// The sums down to each vertex, or the first vertex at which they are wrong.
-fn sums_down<L: Ledger>(
+// The sums up from a vertex or down to it, or None where they are wrong.
+fn sums_at<L: Ledger>(
     alloc: Global,
     hierarchy: &Hierarchy,
     plain: &Distances,
+    at: NodeNo,
+    is_up: bool,
+    work: &mut Work,
     searches: &mut Steps<L>,
-) -> Result<Result<Sums, Difference>, NoMemory> {
-    let mut work = Work::new(alloc, hierarchy)?;
+) -> Result<Option<Vec<Option<u64>>>, NoMemory>
+    requires at { IsNode hierarchy.now at }
+    requires fits { work.old.nodes ≡ length hierarchy.now.ranks }
+    ensures { work.new.nodes ≡ work.old.nodes }
+{
+    if is_up {
+        search_up(hierarchy, at, work, searches);
+    } else {
+        search_down(hierarchy, at, work, searches);
+    }
+    let sums = by_vertex(alloc, hierarchy.nodes(), work.settled())?;
+    Ok(sums.filter(|sums| are_sums(hierarchy, plain, at, sums.as_slice(), is_up)))
+}
+
+// The sums up from each vertex or down to each, or the first vertex at which they are wrong.
+fn all_sums<L: Ledger>(
+    alloc: Global,
+    hierarchy: &Hierarchy,
+    plain: &Distances,
+    is_up: bool,
+    work: &mut Work,
+    searches: &mut Steps<L>,
+) -> Result<Result<Sums, Difference>, NoMemory>
+    requires { work.old.nodes ≡ length hierarchy.now.ranks }
+    ensures { work.new.nodes ≡ work.old.nodes }
+{
     let mut all = Vec::new(alloc);
-    let nodes = hierarchy.nodes();
-    for place in 0..nodes {
+    for place in 0..hierarchy.nodes() {
         let at = NodeNo(place + 1);
-        search_down(hierarchy, at, &mut work, searches);
-        let Some(sums) = by_vertex(alloc, nodes, work.settled())? else {
-            return Ok(Err(Difference::Down(at)));
-        };
-        if !are_sums(hierarchy, plain, at, sums.as_slice(), false) {
-            return Ok(Err(Difference::Down(at)));
+        match sums_at(alloc, hierarchy, plain, at, is_up, work, searches)? {
+            Some(sums) => all.push(sums)?,
+            None => return Ok(Err(wrong(at, is_up))),
         }
-        all.push(sums)?;
     }
     Ok(Ok(all))
 }
@@ -201,6 +235,41 @@ fn meeting_difference(plain: &Distances, up: &Sums, down: &Sums) -> Option<Diffe
     None
 }
 
+// The first place at which the searches down differ, or those up and down together.
+fn down_difference<L: Ledger>(
+    alloc: Global,
+    hierarchy: &Hierarchy,
+    plain: &Distances,
+    up: &Sums,
+    work: &mut Work,
+    searches: &mut Steps<L>,
+) -> Result<Option<Difference>, NoMemory>
+    requires { work.old.nodes ≡ length hierarchy.now.ranks }
+{
+    Ok(
+        match all_sums(alloc, hierarchy, plain, false, work, searches)? {
+            Ok(down) => meeting_difference(plain, up, &down),
+            Err(found) => Some(found),
+        },
+    )
+}
+
+// The first place at which the searches up and down differ.
+fn sums_difference<L: Ledger>(
+    alloc: Global,
+    hierarchy: &Hierarchy,
+    plain: &Distances,
+    work: &mut Work,
+    searches: &mut Steps<L>,
+) -> Result<Option<Difference>, NoMemory>
+    requires { work.old.nodes ≡ length hierarchy.now.ranks }
+{
+    match all_sums(alloc, hierarchy, plain, true, work, searches)? {
+        Ok(up) => down_difference(alloc, hierarchy, plain, &up, work, searches),
+        Err(found) => Ok(Some(found)),
+    }
+}
+
 /// The first place at which the searches up and down differ.
 pub fn search_difference<L: Ledger>(
     alloc: Global,
@@ -208,13 +277,6 @@ pub fn search_difference<L: Ledger>(
     plain: &Distances,
     searches: &mut Steps<L>,
 ) -> Result<Option<Difference>, NoMemory> {
-    let up = match sums_up(alloc, hierarchy, plain, searches)? {
-        Ok(up) => up,
-        Err(found) => return Ok(Some(found)),
-    };
-    let down = match sums_down(alloc, hierarchy, plain, searches)? {
-        Ok(down) => down,
-        Err(found) => return Ok(Some(found)),
-    };
-    Ok(meeting_difference(plain, &up, &down))
+    let mut work = Work::new(alloc, hierarchy)?;
+    sums_difference(alloc, hierarchy, plain, &mut work, searches)
 }

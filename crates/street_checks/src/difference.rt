@@ -4,6 +4,8 @@ use move_model::{NodeNo, StopNo};
 /// What answers otherwise than plain search.
 #[derive(Clone, Copy, Debug, PartialEq, Eq)]
 pub enum Difference {
+    /// The graph, whose text is refused.
+    Graph,
     /// The distance between two vertices.
     Distance(NodeNo, NodeNo),
     /// The walk between two vertices.

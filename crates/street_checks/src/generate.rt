@@ -98,27 +98,46 @@ fn is_both_ways(layout: Layout, numbers: &mut Numbers) -> bool {
     }
 }
 
-// The text of a graph with so many vertices, in the form of `.gr`.
-fn text_of(alloc: Global, seed: u64, nodes: u32, pairs: u32) -> Result<String, NoMemory> {
+fn push_arc(lines: &mut String, from: u32, to: u32, seconds: u32) -> Result<(), NoMemory> {
+    writeln!(lines, "a {from} {to} {seconds}")
+}
+
+// Puts an arc last, or one each way, and gives their number.
+fn push_arcs(
+    lines: &mut String,
+    numbers: &mut Numbers,
+    layout: Layout,
+    nodes: u32,
+) -> Result<u32, NoMemory> {
+    let (from, to) = ends(numbers, layout, nodes);
+    let there = seconds(numbers);
+    push_arc(lines, from, to, there)?;
+    if !is_both_ways(layout, numbers) {
+        return Ok(1);
+    }
+    let back = match numbers.below(4) {
+        0 => seconds(numbers),
+        _ => there,
+    };
+    push_arc(lines, to, from, back)?;
+    Ok(2)
+}
+
+// The lines of the arcs between so many pairs of vertices, and their number.
+fn arcs_of(alloc: Global, seed: u64, nodes: u32, pairs: u32) -> Result<(String, u32), NoMemory> {
     let mut numbers = Numbers::new(seed);
-    let layout = layout_of(seed);
     let mut lines = String::new(alloc);
     let mut count = 0u32;
     for _ in 0..pairs {
-        let (from, to) = ends(&mut numbers, layout, nodes);
-        let there = seconds(&mut numbers);
-        writeln!(lines, "a {from} {to} {there}")?;
-        count = count.saturating_add(1);
-        if is_both_ways(layout, &mut numbers) {
-            let back = if numbers.below(4) == 0 {
-                seconds(&mut numbers)
-            } else {
-                there
-            };
-            writeln!(lines, "a {to} {from} {back}")?;
-            count = count.saturating_add(1);
-        }
+        let pushed = push_arcs(&mut lines, &mut numbers, layout_of(seed), nodes)?;
+        count = count.saturating_add(pushed);
     }
+    Ok((lines, count))
+}
+
+// The text of a graph with so many vertices, in the form of `.gr`.
+fn text_of(alloc: Global, seed: u64, nodes: u32, pairs: u32) -> Result<String, NoMemory> {
+    let (lines, count) = arcs_of(alloc, seed, nodes, pairs)?;
     format!(in alloc; "p sp {nodes} {count}\n{lines}")
 }
 
@@ -134,10 +153,7 @@ pub fn graph_of(
     if bytes.len() > 100_000 {
         return Ok(None);
     }
-    match read_gr(alloc, bytes) {
-        Ok(graph) => Ok(Some(graph)),
-        Err(_) => Ok(None),
-    }
+    Ok(read_gr(alloc, bytes).ok())
 }
 
 // Puts the number last, if it is that of a vertex.
@@ -183,10 +199,11 @@ fn stops_of(alloc: Global, graph: &Graph, seed: u64) -> Result<Stops, NoMemory> 
 
 /// The network of a graph, with stops and without trips.
 pub fn network_of(alloc: Global, graph: &Graph, seed: u64) -> Result<Network, NoMemory> {
+    let stops = stops_of(alloc, graph, seed)?;
     Ok(Network {
         nodes: graph.nodes(),
         arcs: Arcs::from_slice(alloc, graph.arcs())?,
-        stops: stops_of(alloc, graph, seed)?,
+        stops,
         trips: Trips::new(alloc),
         buffer: 0,
     })

@@ -58,6 +58,79 @@ fn row_difference(
     None
 }
 
+// The first walk between a vertex and a stop that differs, written to a row that is lent.
+fn vertex_difference<L: Ledger>(
+    hierarchy: &Hierarchy,
+    buckets: &Buckets,
+    stops: &[Stop],
+    plain: &Distances,
+    at: NodeNo,
+    row: &mut WalkRow,
+    work: &mut Work,
+    searches: &mut Steps<L>,
+) -> Option<Difference>
+    requires at { IsNode hierarchy.now at }
+    requires nodes { buckets.now.nodes ≡ length hierarchy.now.ranks }
+    requires stops { buckets.now.stops ≡ length stops.now }
+    requires few { length stops.now ≤ 100 }
+    requires fits { work.old.nodes ≡ length hierarchy.now.ranks }
+    requires row { length row.old ≡ length stops.now }
+    ensures nodes { work.new.nodes ≡ work.old.nodes }
+    ensures row { length row.new ≡ length row.old }
+{
+    buckets.first_walks(hierarchy, at, row, work, searches);
+    let found = row_difference(plain, stops, at, row, true);
+    if found.is_some() {
+        return found;
+    }
+    buckets.last_walks(hierarchy, at, row, work, searches);
+    row_difference(plain, stops, at, row, false)
+}
+
+fn vertices_difference<L: Ledger>(
+    hierarchy: &Hierarchy,
+    buckets: &Buckets,
+    stops: &[Stop],
+    plain: &Distances,
+    row: &mut WalkRow,
+    work: &mut Work,
+    searches: &mut Steps<L>,
+) -> Option<Difference>
+    requires nodes { buckets.now.nodes ≡ length hierarchy.now.ranks }
+    requires stops { buckets.now.stops ≡ length stops.now }
+    requires few { length stops.now ≤ 100 }
+    requires fits { work.old.nodes ≡ length hierarchy.now.ranks }
+    requires row { length row.old ≡ length stops.now }
+{
+    for place in 0..hierarchy.nodes() {
+        let at = NodeNo(place + 1);
+        let found = vertex_difference(hierarchy, buckets, stops, plain, at, row, work, searches);
+        if found.is_some() {
+            return found;
+        }
+    }
+    None
+}
+
+fn bucket_difference<L: Ledger>(
+    alloc: Global,
+    hierarchy: &Hierarchy,
+    buckets: &Buckets,
+    stops: &[Stop],
+    plain: &Distances,
+    searches: &mut Steps<L>,
+) -> Result<Option<Difference>, NoMemory>
+    requires nodes { buckets.now.nodes ≡ length hierarchy.now.ranks }
+    requires stops { buckets.now.stops ≡ length stops.now }
+    requires few { length stops.now ≤ 100 }
+{
+    let mut work = Work::new(alloc, hierarchy)?;
+    let mut row = WalkRow::new(alloc, stops.len() as u32)?;
+    Ok(vertices_difference(
+        hierarchy, buckets, stops, plain, &mut row, &mut work, searches,
+    ))
+}
+
 /// The first walk between a vertex and a stop that differs.
 pub fn stop_difference<L: Ledger>(
     alloc: Global,
@@ -71,20 +144,5 @@ pub fn stop_difference<L: Ledger>(
         return Ok(Some(Difference::Stops));
     }
     let buckets = Buckets::new(alloc, hierarchy, stops)?;
-    let mut work = Work::new(alloc, hierarchy)?;
-    let mut row = WalkRow::new(alloc, places.len() as u32)?;
-    for place in 0..hierarchy.nodes() {
-        let at = NodeNo(place + 1);
-        buckets.first_walks(hierarchy, at, &mut row, &mut work, searches);
-        let found = row_difference(plain, places, at, &row, true);
-        if found.is_some() {
-            return Ok(found);
-        }
-        buckets.last_walks(hierarchy, at, &mut row, &mut work, searches);
-        let found = row_difference(plain, places, at, &row, false);
-        if found.is_some() {
-            return Ok(found);
-        }
-    }
-    Ok(None)
+    bucket_difference(alloc, hierarchy, &buckets, places, plain, searches)
 }

@@ -6,7 +6,7 @@ use crate::difference::Difference;
 use crate::generate::{graph_of, kept_of, network_of};
 use crate::plain::Distances;
 use crate::stops::stop_difference;
-use move_model::NoMemory;
+use move_model::{Network, NoMemory};
 use std::alloc::Global;
 use std::marker::Brand;
 use std::sync::ledger::{Blank, Ledger};
@@ -36,39 +36,60 @@ fn hierarchy_of(alloc: Global, graph: &Graph, seed: u64) -> Result<Hierarchy, No
 // What a hierarchy answers otherwise than plain search, or None.
 fn found_difference<L: Ledger>(
     alloc: Global,
-    graph: &Graph,
-    seed: u64,
+    network: &Network,
+    hierarchy: &Hierarchy,
+    plain: &Distances,
     blank: Blank,
 ) -> Result<Option<Difference>, NoMemory>
     requires name { blank.name ≡ L.name }
     requires parts { blank.parts ≡ L.parts }
     requires some { 0 < blank.parts }
 {
-    let network = network_of(alloc, graph, seed)?;
-    let plain = Distances::new(alloc, &network)?;
-    let hierarchy = hierarchy_of(alloc, graph, seed)?;
     let mut searches = Steps::<L>::new(blank);
-    let walks = walk_difference(alloc, graph.arcs(), &hierarchy, &plain, &mut searches)?;
+    let arcs = network.arcs.as_slice();
+    let walks = walk_difference(alloc, arcs, hierarchy, plain, &mut searches)?;
     if walks.is_some() {
         return Ok(walks);
     }
-    let sums = search_difference(alloc, &hierarchy, &plain, &mut searches)?;
+    let sums = search_difference(alloc, hierarchy, plain, &mut searches)?;
     if sums.is_some() {
         return Ok(sums);
     }
-    stop_difference(alloc, &hierarchy, &network.stops, &plain, &mut searches)
+    stop_difference(alloc, hierarchy, &network.stops, plain, &mut searches)
 }
 
-fn difference_of(alloc: Global, graph: &Graph, seed: u64) -> Result<Option<Difference>, NoMemory> {
-    found_difference::<Brand>(alloc, graph, seed, Blank::new(1))
+fn plain_difference(
+    alloc: Global,
+    network: &Network,
+    hierarchy: &Hierarchy,
+) -> Result<Option<Difference>, NoMemory> {
+    let plain = Distances::new(alloc, network)?;
+    found_difference::<Brand>(alloc, network, hierarchy, &plain, Blank::new(1))
+}
+
+fn graph_difference(
+    alloc: Global,
+    graph: &Graph,
+    seed: u64,
+) -> Result<Option<Difference>, NoMemory> {
+    let network = network_of(alloc, graph, seed)?;
+    let hierarchy = hierarchy_of(alloc, graph, seed)?;
+    plain_difference(alloc, &network, &hierarchy)
+}
+
+// The difference at the graph of a seed.
+fn difference_of(alloc: Global, seed: u64) -> Result<Option<Difference>, NoMemory> {
+    let (nodes, pairs) = size_of(seed);
+    let Some(graph) = graph_of(alloc, seed, nodes, pairs)? else {
+        return Ok(Some(Difference::Graph));
+    };
+    graph_difference(alloc, &graph, seed)
 }
 
 #[test]
 fn answers_as_plain_search(rt: HostRuntime) -> Result<(), Fail> {
     for seed in 0..400u64 {
-        let (nodes, pairs) = size_of(seed);
-        let graph = graph_of(rt.alloc(), seed, nodes, pairs)?.ok_or("the graph is refused")?;
-        let found = difference_of(rt.alloc(), &graph, seed)?;
+        let found = difference_of(rt.alloc(), seed)?;
         assert_eq!(rt; found, None, "with the seed {seed}");
     }
     Ok(())

@@ -1,101 +1,130 @@
-ghost use Rattle.std.specs.Prelude.{All, IfOk, OnOk};
-ghost use Rattle.move_model.specs.Streets.{IsVertex};
-
+// Cores of small texts, by hand.
+use crate::graphs::core_of;
 use move_model::NodeNo;
-use std::alloc::{AllocError, Global};
+use std::alloc::Global;
 use std::test::Fail;
-use street_graph::{Graph, read_gr};
-use walk_core::{Core, CoreArc, contract};
+use walk_core::{Core, CoreArc};
 
-// Puts the number last, if it is that of a vertex.
-fn push_vertex(graph: &Graph, list: &mut Vec<NodeNo>, number: u32) -> Result<(), AllocError>
-    ensures { OnOk result (All (λ v. IsVertex graph.now v) list.old.items
-        → All (λ v. IsVertex graph.now v) list.new.items) }
-{
-    if number < 1 || graph.nodes() < number {
-        return Ok(());
-    }
-    list.push(NodeNo(number))?;
-    Ok(())
+#[derive(Clone, Copy)]
+enum Side {
+    Out,
+    Up,
+    Down,
 }
 
-// Those of the numbers that are vertices of the graph.
-fn vertices(alloc: Global, graph: &Graph, numbers: &[u32]) -> Result<Vec<NodeNo>, AllocError>
-    ensures { IfOk result (λ list. All (λ v. IsVertex graph.now v) list.items) }
-{
-    let mut list = Vec::new(alloc);
-    for number in numbers {
-        push_vertex(graph, &mut list, *number)?;
-    }
-    Ok(list)
+// A vertex and the arcs on one side of it: their other ends, their seconds and their middles.
+type ArcsRow = (Side, u32, &'static [(u32, u64, u32)]);
+
+#[derive(Clone, Copy)]
+struct Case {
+    text: &'static [u8],
+    keep: &'static [u32],
+    nodes: u32,
+    contracted: &'static [NodeNo],
+    held: &'static [u32],
+    others: &'static [u32],
+    arcs: &'static [ArcsRow],
 }
 
-// The core of a text of `.gr`.
-fn core_of(alloc: Global, text: &[u8], keep: &[u32]) -> Option<Core> {
-    if text.len() > 1000 {
-        return None;
-    }
-    let Ok(graph) = read_gr(alloc, text) else {
-        return None;
-    };
-    let Ok(keep) = vertices(alloc, &graph, keep) else {
-        return None;
-    };
-    match contract(alloc, &graph, keep.as_slice()) {
-        Ok(core) => Some(core),
-        Err(_) => None,
+const CASES: [Case; 3] = [
+    // all vertices are kept
+    Case {
+        text: b"p sp 4 4\na 2 3 240\na 3 2 240\na 1 4 7200\na 4 1 7200\n",
+        keep: &[1, 2, 3, 4],
+        nodes: 4,
+        contracted: &[],
+        held: &[1, 4],
+        others: &[5, 0],
+        arcs: &[
+            (Side::Out, 2, &[(3, 240, 0)]),
+            (Side::Out, 4, &[(1, 7200, 0)]),
+            (Side::Out, 9, &[]),
+            (Side::Up, 2, &[]),
+        ],
+    },
+    // a vertex is contracted, of which the least of parallel arcs and no loop count
+    Case {
+        text: b"p sp 3 6\na 1 2 5\na 1 2 3\na 2 3 4\na 2 2 0\na 3 2 6\na 2 1 9\n",
+        keep: &[1, 3],
+        nodes: 3,
+        contracted: &[NodeNo(2)],
+        held: &[1, 3],
+        others: &[2],
+        arcs: &[
+            (Side::Out, 1, &[(3, 7, 2)]),
+            (Side::Out, 3, &[(1, 15, 2)]),
+            (Side::Out, 2, &[]),
+            (Side::Up, 2, &[(3, 4, 0), (1, 9, 0)]),
+            (Side::Down, 2, &[(1, 3, 0), (3, 6, 0)]),
+        ],
+    },
+    // no arc is added beside a shorter way
+    Case {
+        text: b"p sp 4 4\na 1 2 5\na 2 3 5\na 1 4 4\na 4 3 6\n",
+        keep: &[1, 3, 4],
+        nodes: 4,
+        contracted: &[NodeNo(2)],
+        held: &[1, 3, 4],
+        others: &[2],
+        arcs: &[(Side::Out, 1, &[(4, 4, 0)])],
+    },
+];
+
+fn side_of(core: &Core, side: Side, node: NodeNo) -> &[CoreArc] {
+    match side {
+        Side::Out => core.out(node),
+        Side::Up => core.up(node),
+        Side::Down => core.down(node),
     }
 }
 
-fn arc(to: u32, seconds: u64, middle: u32) -> CoreArc {
-    CoreArc {
-        seconds,
-        to: NodeNo(to),
-        middle: NodeNo(middle),
+fn are_arcs(arcs: &[CoreArc], want: &[(u32, u64, u32)]) -> bool {
+    for (arc, (to, seconds, middle)) in arcs.iter().zip(want) {
+        if arc.to.0 != *to || arc.seconds != *seconds || arc.middle.0 != *middle {
+            return false;
+        }
     }
+    arcs.len() == want.len()
 }
 
-#[test]
-fn keeps_all_vertices(rt: HostRuntime) -> Result<(), Fail> {
-    let text = b"p sp 4 4\na 2 3 240\na 3 2 240\na 1 4 7200\na 4 1 7200\n";
-    let core = core_of(rt.alloc(), text, &[1, 2, 3, 4]).ok_or("no core")?;
-    assert_eq!(rt; core.nodes(), 4);
-    assert_eq!(rt; core.contracted(), [].as_slice());
-    assert!(rt;
-        core.holds(NodeNo(1))
-            && core.holds(NodeNo(4))
-            && !core.holds(NodeNo(5))
-            && !core.holds(NodeNo(0))
-    );
-    assert_eq!(rt; core.out(NodeNo(2)), [arc(3, 240, 0)].as_slice());
-    assert_eq!(rt; core.out(NodeNo(4)), [arc(1, 7200, 0)].as_slice());
-    assert_eq!(rt; core.out(NodeNo(9)), [].as_slice());
-    assert_eq!(rt; core.up(NodeNo(2)), [].as_slice());
-    Ok(())
+fn has_arcs(core: &Core, rows: &[ArcsRow]) -> bool {
+    for (side, node, want) in rows {
+        if !are_arcs(side_of(core, *side, NodeNo(*node)), want) {
+            return false;
+        }
+    }
+    true
+}
+
+// How many of the vertices are in the core.
+fn count_held(core: &Core, nodes: &[u32]) -> usize {
+    let mut count = 0usize;
+    for node in nodes {
+        if core.holds(NodeNo(*node)) {
+            count = count.saturating_add(1);
+        }
+    }
+    count
+}
+
+fn is_core(core: &Core, case: &Case) -> bool {
+    core.nodes() == case.nodes
+        && core.contracted() == case.contracted
+        && count_held(core, case.held) == case.held.len()
+        && count_held(core, case.others) == 0
+        && has_arcs(core, case.arcs)
+}
+
+// Whether the text has the core of the case, or None where there is no core.
+fn gives(alloc: Global, case: &Case) -> Option<bool> {
+    let core = core_of(alloc, case.text, case.keep)?;
+    Some(is_core(&core, case))
 }
 
 #[test]
 fn contracts_what_is_not_kept(rt: HostRuntime) -> Result<(), Fail> {
-    let text = b"p sp 3 6\na 1 2 5\na 1 2 3\na 2 3 4\na 2 2 0\na 3 2 6\na 2 1 9\n";
-    let core = core_of(rt.alloc(), text, &[1, 3]).ok_or("no core")?;
-    assert_eq!(rt; core.contracted(), [NodeNo(2)].as_slice());
-    assert!(rt; core.holds(NodeNo(1)) && !core.holds(NodeNo(2)) && core.holds(NodeNo(3)));
-    assert_eq!(rt; core.out(NodeNo(1)), [arc(3, 7, 2)].as_slice());
-    assert_eq!(rt; core.out(NodeNo(3)), [arc(1, 15, 2)].as_slice());
-    assert_eq!(rt; core.out(NodeNo(2)), [].as_slice());
-    assert_eq!(rt; core.up(NodeNo(2)), [arc(3, 4, 0), arc(1, 9, 0)].as_slice());
-    assert_eq!(rt;
-        core.down(NodeNo(2)),
-        [arc(1, 3, 0), arc(3, 6, 0)].as_slice()
-    );
-    Ok(())
-}
-
-#[test]
-fn adds_no_arc_beside_a_shorter_way(rt: HostRuntime) -> Result<(), Fail> {
-    let text = b"p sp 4 4\na 1 2 5\na 2 3 5\na 1 4 4\na 4 3 6\n";
-    let core = core_of(rt.alloc(), text, &[1, 3, 4]).ok_or("no core")?;
-    assert_eq!(rt; core.contracted(), [NodeNo(2)].as_slice());
-    assert_eq!(rt; core.out(NodeNo(1)), [arc(4, 4, 0)].as_slice());
+    for (i, case) in CASES.iter().enumerate() {
+        assert_eq!(rt; gives(rt.alloc(), case), Some(true), "case {i}");
+    }
     Ok(())
 }

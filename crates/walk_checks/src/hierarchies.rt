@@ -1,18 +1,15 @@
-// Small hierarchies with least sums, walks and settled vertices that were worked by hand.
-ghost use Rattle.std.specs.Prelude.{◌≡◌, ◌<◌, IfOk, length};
-ghost use Rattle.walk_hierarchy.specs.Hierarchy.{IsHierarchy, IsNode, IsOver};
-ghost use Rattle.walk_checks.specs.Samples.{pairs, line_streets, line};
+// Least sums, walks and settled vertices of small hierarchies, by hand.
+ghost use Rattle.std.specs.Prelude.{◌≡◌, ◌<◌, length};
+ghost use Rattle.walk_hierarchy.specs.Hierarchy.{IsNode};
 
-use move_model::{Arc, Arcs, List, Network, NoMemory, NodeNo, Stops, Trips, Walk};
+use crate::samples::{line_of, pairs_of};
+use move_model::{NoMemory, NodeNo};
 use std::alloc::Global;
 use std::marker::Brand;
 use std::sync::ledger::{Blank, Ledger};
 use std::test::Fail;
 use steps::Steps;
-use walk_hierarchy::{
-    Hierarchy, Ranks, Settled, UpDown, UpDowns, Work, distance, from_parts, search_down, search_up,
-    timed_path,
-};
+use walk_hierarchy::{Hierarchy, Settled, Work, distance, search_down, search_up, timed_path};
 
 #[derive(Clone, Copy, Debug)]
 enum Sample {
@@ -24,74 +21,6 @@ enum Sample {
     Long,
 }
 
-fn street(from: u32, to: u32, seconds: u32) -> Arc
-    ensures { result ≡ record { from = record { 0 = from }; to = record { 0 = to }; seconds = seconds } }
-{
-    Arc {
-        from: NodeNo(from),
-        to: NodeNo(to),
-        seconds,
-    }
-}
-
-fn arc(from: u32, to: u32, seconds: u64, middle: u32) -> UpDown
-    ensures { result ≡ record { from = record { 0 = from }; to = record { 0 = to }; seconds = seconds; middle = record { 0 = middle } } }
-{
-    UpDown {
-        from: NodeNo(from),
-        to: NodeNo(to),
-        seconds,
-        middle: NodeNo(middle),
-    }
-}
-
-fn network_of(alloc: Global, nodes: u32, arcs: &[Arc]) -> Result<Network, NoMemory>
-    ensures nodes { IfOk result (λ network. network.nodes ≡ nodes) }
-    ensures arcs { IfOk result (λ network. network.arcs ≡ arcs.now) }
-{
-    Ok(Network {
-        nodes,
-        arcs: Arcs::from_slice(alloc, arcs)?,
-        stops: Stops::new(alloc),
-        trips: Trips::new(alloc),
-        buffer: 0,
-    })
-}
-
-fn pairs_of(alloc: Global) -> Result<Hierarchy, NoMemory>
-    ensures { IfOk result (λ hierarchy. hierarchy ≡ pairs) }
-{
-    let streets = [
-        street(2, 3, 240),
-        street(3, 2, 240),
-        street(1, 4, 7200),
-        street(4, 1, 7200),
-    ];
-    let network = network_of(alloc, 4, &streets)?;
-    let ranks = Ranks::from_slice(alloc, &[0, 1, 2, 3])?;
-    let up = UpDowns::from_slice(alloc, &[arc(1, 4, 7200, 0), arc(2, 3, 240, 0)])?;
-    let down = UpDowns::from_slice(alloc, &[arc(3, 2, 240, 0), arc(4, 1, 7200, 0)])?;
-    from_parts(alloc, &network, ranks, up, down)
-}
-
-fn line_of(alloc: Global, seconds: u64, middle: u32) -> Result<Hierarchy, NoMemory>
-    requires rules { IsHierarchy (line seconds middle) }
-    requires over { IsOver line_streets (line seconds middle) }
-    ensures { IfOk result (λ hierarchy. hierarchy ≡ line seconds middle) }
-{
-    let streets = [
-        street(1, 2, 100),
-        street(2, 3, 140),
-        street(3, 2, 140),
-        street(1, 3, 500),
-    ];
-    let network = network_of(alloc, 3, &streets)?;
-    let ranks = Ranks::from_slice(alloc, &[1, 0, 2])?;
-    let up = UpDowns::from_slice(alloc, &[arc(1, 3, seconds, middle), arc(2, 3, 140, 0)])?;
-    let down = UpDowns::from_slice(alloc, &[arc(1, 2, 100, 0), arc(3, 2, 140, 0)])?;
-    from_parts(alloc, &network, ranks, up, down)
-}
-
 fn hierarchy_of(alloc: Global, sample: Sample) -> Result<Hierarchy, NoMemory> {
     match sample {
         Sample::Pairs => pairs_of(alloc),
@@ -100,139 +29,7 @@ fn hierarchy_of(alloc: Global, sample: Sample) -> Result<Hierarchy, NoMemory> {
     }
 }
 
-// The seconds of each vertex, from vertex 1.
-fn by_vertex(alloc: Global, nodes: u32, settled: &[Settled]) -> Result<Vec<Option<u64>>, NoMemory> {
-    let mut all = vec![in alloc; None; nodes as usize]?;
-    for entry in settled {
-        if let Some(place) = all.get_mut(entry.node.0.wrapping_sub(1) as usize) {
-            *place = Some(entry.seconds);
-        }
-    }
-    Ok(all)
-}
-
-// What a hierarchy answers about two vertices.
-#[derive(Drop)]
-struct Answers {
-    walked: Walked,
-    up: Vec<Option<u64>>,
-    down: Vec<Option<u64>>,
-}
-
-#[derive(Drop)]
-struct Walked {
-    seconds: Option<u64>,
-    // No vertex and no seconds where there is no walk.
-    walk: Walk,
-    timed: Option<u64>,
-    // The entries that the least sum and the walk left.
-    left: usize,
-}
-
-// The least sum and the walk between two vertices.
-fn walk_between<L: Ledger>(
-    alloc: Global,
-    hierarchy: &Hierarchy,
-    a: NodeNo,
-    b: NodeNo,
-    work: &mut Work,
-    searches: &mut Steps<L>,
-) -> Result<Walked, NoMemory>
-    requires a { IsNode hierarchy.now a }
-    requires b { IsNode hierarchy.now b }
-    requires fits { work.old.nodes ≡ length hierarchy.now.ranks }
-    ensures { work.new.nodes ≡ work.old.nodes }
-{
-    let seconds = distance(hierarchy, a, b, work, searches);
-    let left = work.settled().len();
-    let found = timed_path(alloc, hierarchy, a, b, work, searches)?;
-    let left = left.max(work.settled().len());
-    let (walk, timed) = match found {
-        Some(found) => (found.walk, Some(found.seconds)),
-        None => (List::new(alloc), None),
-    };
-    Ok(Walked {
-        seconds,
-        walk,
-        timed,
-        left,
-    })
-}
-
-// The least sums up from a vertex.
-fn sums_up<L: Ledger>(
-    alloc: Global,
-    hierarchy: &Hierarchy,
-    a: NodeNo,
-    work: &mut Work,
-    searches: &mut Steps<L>,
-) -> Result<Vec<Option<u64>>, NoMemory>
-    requires exists { IsNode hierarchy.now a }
-    requires fits { work.old.nodes ≡ length hierarchy.now.ranks }
-    ensures { work.new.nodes ≡ work.old.nodes }
-{
-    search_up(hierarchy, a, work, searches);
-    by_vertex(alloc, hierarchy.nodes(), work.settled())
-}
-
-// The least sums down to a vertex.
-fn sums_down<L: Ledger>(
-    alloc: Global,
-    hierarchy: &Hierarchy,
-    b: NodeNo,
-    work: &mut Work,
-    searches: &mut Steps<L>,
-) -> Result<Vec<Option<u64>>, NoMemory>
-    requires exists { IsNode hierarchy.now b }
-    requires fits { work.old.nodes ≡ length hierarchy.now.ranks }
-    ensures { work.new.nodes ≡ work.old.nodes }
-{
-    search_down(hierarchy, b, work, searches);
-    by_vertex(alloc, hierarchy.nodes(), work.settled())
-}
-
-// Asks for the walk between two vertices, and then for the sums up from the first and down to the other one.
-fn asked<L: Ledger>(
-    alloc: Global,
-    hierarchy: &Hierarchy,
-    a: NodeNo,
-    b: NodeNo,
-    work: &mut Work,
-    blank: Blank,
-) -> Result<Answers, NoMemory>
-    requires name { blank.name ≡ L.name }
-    requires parts { blank.parts ≡ L.parts }
-    requires some { 0 < blank.parts }
-    requires a { IsNode hierarchy.now a }
-    requires b { IsNode hierarchy.now b }
-    requires fits { work.old.nodes ≡ length hierarchy.now.ranks }
-{
-    let mut searches = Steps::<L>::new(blank);
-    let up = sums_up(alloc, hierarchy, a, work, &mut searches)?;
-    let walked = walk_between(alloc, hierarchy, a, b, work, &mut searches)?;
-    let down = sums_down(alloc, hierarchy, b, work, &mut searches)?;
-    Ok(Answers { walked, up, down })
-}
-
-// None where either of the vertices doesn't exist.
-fn answers_of(
-    alloc: Global,
-    sample: Sample,
-    from: u32,
-    to: u32,
-) -> Result<Option<Answers>, NoMemory> {
-    let hierarchy = hierarchy_of(alloc, sample)?;
-    let nodes = hierarchy.nodes();
-    if from < 1 || nodes < from || to < 1 || nodes < to {
-        return Ok(None);
-    }
-    let mut work = Work::new(alloc, &hierarchy)?;
-    let (a, b) = (NodeNo(from), NodeNo(to));
-    let answers = asked::<Brand>(alloc, &hierarchy, a, b, &mut work, Blank::new(1))?;
-    Ok(Some(answers))
-}
-
-// A sample, two vertices, the least sum between them and the vertices of a walk.
+// A sample, two vertices, the least sum between them, and the vertices of a walk; no vertices stand for no walk.
 type WalkRow = (Sample, u32, u32, Option<u64>, &'static [NodeNo]);
 
 // A sample, a vertex, and the least sums up from it and down to it by vertex.
@@ -276,29 +73,118 @@ const SUMS: [SumsRow; 3] = [
     ),
 ];
 
-#[test]
-fn finds_walks(rt: HostRuntime) -> Result<(), Fail> {
-    for (sample, from, to, seconds, walk) in WALKS {
-        let found = answers_of(rt.alloc(), sample, from, to)?;
-        let found = found.ok_or("no such vertex")?.walked;
-        assert_eq!(rt; found.seconds, seconds, "{sample:?} from {from} to {to}");
-        assert_eq!(rt; found.timed, seconds, "{sample:?} from {from} to {to}");
-        assert!(rt;
-            found.walk.as_slice() == walk,
-            "{sample:?} from {from} to {to}"
-        );
-        assert_eq!(rt; found.left, 0);
+// The seconds of a vertex, or None where it isn't settled.
+fn seconds_of(settled: &[Settled], node: u32) -> Option<u64> {
+    for entry in settled {
+        if entry.node.0 == node {
+            return Some(entry.seconds);
+        }
     }
-    Ok(())
+    None
+}
+
+// Whether the settled vertices have these seconds, from vertex 1.
+fn are_sums(settled: &[Settled], sums: &[Option<u64>]) -> bool {
+    let mut node = 0u32;
+    for sum in sums {
+        node = node.saturating_add(1);
+        if seconds_of(settled, node) != *sum {
+            return false;
+        }
+    }
+    true
+}
+
+fn has_sums<L: Ledger>(
+    hierarchy: &Hierarchy,
+    at: NodeNo,
+    up: &[Option<u64>],
+    down: &[Option<u64>],
+    work: &mut Work,
+    blank: Blank,
+) -> bool
+    requires name { blank.name ≡ L.name }
+    requires parts { blank.parts ≡ L.parts }
+    requires some { 0 < blank.parts }
+    requires exists { IsNode hierarchy.now at }
+    requires fits { work.old.nodes ≡ length hierarchy.now.ranks }
+{
+    let mut searches = Steps::<L>::new(blank);
+    search_up(hierarchy, at, work, &mut searches);
+    let rises = are_sums(work.settled(), up);
+    search_down(hierarchy, at, work, &mut searches);
+    rises && are_sums(work.settled(), down)
+}
+
+fn sums_in(alloc: Global, hierarchy: &Hierarchy, row: SumsRow) -> Result<bool, NoMemory> {
+    let (_, at, up, down) = row;
+    if at < 1 || hierarchy.nodes() < at {
+        return Ok(false);
+    }
+    let mut work = Work::new(alloc, hierarchy)?;
+    let right = has_sums::<Brand>(hierarchy, NodeNo(at), up, down, &mut work, Blank::new(1));
+    Ok(right)
+}
+
+fn gives_sums(alloc: Global, row: SumsRow) -> Result<bool, NoMemory> {
+    let hierarchy = hierarchy_of(alloc, row.0)?;
+    sums_in(alloc, &hierarchy, row)
 }
 
 #[test]
 fn settles_vertices(rt: HostRuntime) -> Result<(), Fail> {
-    for (sample, at, up, down) in SUMS {
-        let found = answers_of(rt.alloc(), sample, at, at)?;
-        let found = found.ok_or("no such vertex")?;
-        assert!(rt; found.up.as_slice() == up, "{sample:?} up from {at}");
-        assert!(rt; found.down.as_slice() == down, "{sample:?} down to {at}");
+    for row in SUMS {
+        assert!(rt; gives_sums(rt.alloc(), row)?, "{row:?}");
+    }
+    Ok(())
+}
+
+// Whether these are the least sum and the walk, asked for behind another search, and whether they leave nothing settled.
+fn has_walk<L: Ledger>(
+    alloc: Global,
+    hierarchy: &Hierarchy,
+    row: WalkRow,
+    work: &mut Work,
+    blank: Blank,
+) -> Result<bool, NoMemory>
+    requires name { blank.name ≡ L.name }
+    requires parts { blank.parts ≡ L.parts }
+    requires some { 0 < blank.parts }
+    requires from { IsNode hierarchy.now (record { 0 = row.1 }) }
+    requires to { IsNode hierarchy.now (record { 0 = row.2 }) }
+    requires fits { work.old.nodes ≡ length hierarchy.now.ranks }
+{
+    let (_, from, to, seconds, walk) = row;
+    let (a, b) = (NodeNo(from), NodeNo(to));
+    let mut searches = Steps::<L>::new(blank);
+    search_up(hierarchy, a, work, &mut searches);
+    let least = distance(hierarchy, a, b, work, &mut searches);
+    let left = work.settled().len();
+    let same = match timed_path(alloc, hierarchy, a, b, work, &mut searches)? {
+        Some(found) => found.walk.as_slice() == walk && seconds == Some(found.seconds),
+        None => walk.is_empty() && seconds.is_none(),
+    };
+    Ok(same && least == seconds && left == 0 && work.settled().is_empty())
+}
+
+fn walk_in(alloc: Global, hierarchy: &Hierarchy, row: WalkRow) -> Result<bool, NoMemory> {
+    let nodes = hierarchy.nodes();
+    if row.1 < 1 || nodes < row.1 || row.2 < 1 || nodes < row.2 {
+        return Ok(false);
+    }
+    let mut work = Work::new(alloc, hierarchy)?;
+    has_walk::<Brand>(alloc, hierarchy, row, &mut work, Blank::new(1))
+}
+
+fn gives_walk(alloc: Global, row: WalkRow) -> Result<bool, NoMemory> {
+    let hierarchy = hierarchy_of(alloc, row.0)?;
+    walk_in(alloc, &hierarchy, row)
+}
+
+#[test]
+fn finds_walks(rt: HostRuntime) -> Result<(), Fail> {
+    for row in WALKS {
+        assert!(rt; gives_walk(rt.alloc(), row)?, "{row:?}");
     }
     Ok(())
 }

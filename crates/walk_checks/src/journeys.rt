@@ -2,42 +2,21 @@
 // and 3, and 7200 between 1 and 4.
 ghost use Rattle.std.specs.Prelude.{◌≡◌, ◌≤◌, ◌<◌, ◌-◌, ◌^◌, All, IfOk, IsTrue, length};
 ghost use Rattle.move_model.specs.Network.{streets, IsNetwork};
-ghost use Rattle.walk_hierarchy.specs.Hierarchy.{IsNode, IsOver};
-ghost use Rattle.walk_checks.specs.Samples.{pairs_streets, pairs};
+ghost use Rattle.walk_hierarchy.specs.Hierarchy.{IsOver};
+ghost use Rattle.walk_checks.specs.Samples.{pairs_streets};
 
+use crate::samples::{pairs_over, street};
 use journey_build::build;
 use move_model::{
-    Arc, Arcs, Call, Calls, Journey, List, Network, NoMemory, NodeNo, Ride, RideList, Stop, StopNo,
-    Stops, Trip, TripNo, Trips,
+    Arcs, Call, Calls, List, Network, NoMemory, NodeNo, Ride, RideList, Stop, StopNo, Stops, Trip,
+    TripNo, Trips,
 };
 use std::alloc::Global;
 use std::marker::Brand;
-use std::process::Abort;
 use std::sync::ledger::{Blank, Ledger};
 use std::test::Fail;
 use steps::Steps;
-use walk_hierarchy::{Hierarchy, Ranks, UpDown, UpDowns, Work, from_parts};
-
-fn street(from: u32, to: u32, seconds: u32) -> Arc
-    ensures { result ≡ record { from = record { 0 = from }; to = record { 0 = to }; seconds = seconds } }
-{
-    Arc {
-        from: NodeNo(from),
-        to: NodeNo(to),
-        seconds,
-    }
-}
-
-fn arc(from: u32, to: u32, seconds: u64) -> UpDown
-    ensures { result ≡ record { from = record { 0 = from }; to = record { 0 = to }; seconds = seconds; middle = record { 0 = 0 } } }
-{
-    UpDown {
-        from: NodeNo(from),
-        to: NodeNo(to),
-        seconds,
-        middle: NodeNo(0),
-    }
-}
+use walk_hierarchy::{Hierarchy, Work};
 
 fn call_at(stop: u32, second: u32) -> Call {
     Call {
@@ -107,17 +86,6 @@ fn network_of(alloc: Global) -> Result<Network, NoMemory>
     })
 }
 
-// Each vertex has its number less one for a rank.
-fn hierarchy_of(alloc: Global, network: &Network) -> Result<Hierarchy, NoMemory>
-    requires { streets network.now ≡ pairs_streets }
-    ensures { IfOk result (λ hierarchy. hierarchy ≡ pairs) }
-{
-    let ranks = Ranks::from_slice(alloc, &[0, 1, 2, 3])?;
-    let up = UpDowns::from_slice(alloc, &[arc(1, 4, 7200), arc(2, 3, 240)])?;
-    let down = UpDowns::from_slice(alloc, &[arc(3, 2, 240), arc(4, 1, 7200)])?;
-    from_parts(alloc, network, ranks, up, down)
-}
-
 // Whether the network keeps the rules.
 fn is_network(network: &Network) -> bool
     requires streets { streets network.now ≡ pairs_streets }
@@ -131,98 +99,137 @@ fn is_network(network: &Network) -> bool
     network.check().is_ok()
 }
 
-fn ride(trip: u32) -> Ride {
-    Ride {
-        trip: TripNo(trip),
-        board: 0,
-        alight: 1,
+const FIRST: Ride = Ride {
+    trip: TripNo(0),
+    board: 0,
+    alight: 1,
+};
+
+const SECOND: Ride = Ride {
+    trip: TripNo(1),
+    board: 0,
+    alight: 1,
+};
+
+const NO_TRIP: Ride = Ride {
+    trip: TripNo(2),
+    board: 0,
+    alight: 1,
+};
+
+// The vertex to which a journey leads from vertex 1, the second at which it leaves, its rides, and its walks; no walks
+// stand for no journey.
+type Row = (u32, u32, &'static [Ride], &'static [&'static [NodeNo]]);
+
+const WALKS: [&[NodeNo]; 3] = [&[NodeNo(1)], &[NodeNo(2), NodeNo(3)], &[NodeNo(4)]];
+
+const ROWS: [Row; 5] = [
+    (4, 28500, &[FIRST, SECOND], &WALKS),
+    (4, 28800, &[FIRST, SECOND], &WALKS),
+    (4, 28801, &[FIRST, SECOND], &[]),
+    (4, 28500, &[NO_TRIP], &[]),
+    (1, 28500, &[FIRST], &[]),
+];
+
+fn are_walks(walks: &[List<NodeNo>], want: &[&[NodeNo]]) -> bool {
+    for (walk, nodes) in walks.iter().zip(want) {
+        if walk.as_slice() != *nodes {
+            return false;
+        }
     }
+    walks.len() == want.len()
 }
 
-fn built<L: Ledger>(
+fn builds<L: Ledger>(
     alloc: Global,
-    blank: Blank,
     network: &Network,
-    to: u32,
-    depart: u32,
-    rides: &[Ride],
-) -> Result<Option<Journey>, NoMemory>
+    hierarchy: &Hierarchy,
+    row: Row,
+    rides: &RideList,
+    work: &mut Work,
+    blank: Blank,
+) -> Result<bool, NoMemory>
     requires name { blank.name ≡ L.name }
     requires parts { blank.parts ≡ L.parts }
     requires some { 0 < blank.parts }
-    requires streets { streets network.now ≡ pairs_streets }
     requires network { IsNetwork network.now }
-    requires from_one { 1 ≤ to }
-    requires to_four { to ≤ 4 }
+    requires over { IsOver (streets network.now) hierarchy.now }
+    requires four { length hierarchy.now.ranks ≡ 4 }
+    requires from_one { 1 ≤ row.0 }
+    requires to_four { row.0 ≤ 4 }
+    requires fits { work.old.nodes ≡ 4 }
 {
-    let hierarchy = hierarchy_of(alloc, network)?;
-    let mut work = Work::new(alloc, &hierarchy)?;
+    let (to, depart, _, walks) = row;
     let mut searches = Steps::<L>::new(blank);
-    let rides = RideList::from_slice(alloc, rides)?;
-    build(
+    let made = build(
         alloc,
         network,
-        &hierarchy,
+        hierarchy,
         NodeNo(1),
         NodeNo(to),
         depart,
+        rides,
+        work,
+        &mut searches,
+    )?;
+    Ok(match made {
+        Some(journey) => are_walks(journey.walks.as_slice(), walks),
+        None => walks.is_empty(),
+    })
+}
+
+fn builds_over(
+    alloc: Global,
+    network: &Network,
+    hierarchy: &Hierarchy,
+    row: Row,
+) -> Result<bool, NoMemory>
+    requires network { IsNetwork network.now }
+    requires over { IsOver (streets network.now) hierarchy.now }
+    requires four { length hierarchy.now.ranks ≡ 4 }
+{
+    if row.0 < 1 || 4 < row.0 {
+        return Ok(false);
+    }
+    let rides = RideList::from_slice(alloc, row.2)?;
+    let mut work = Work::new(alloc, hierarchy)?;
+    builds::<Brand>(
+        alloc,
+        network,
+        hierarchy,
+        row,
         &rides,
         &mut work,
-        &mut searches,
+        Blank::new(1),
     )
 }
 
-fn is_walk(walks: &[List<NodeNo>], place: usize, walk: &[NodeNo]) -> bool {
-    match walks.get(place) {
-        Some(found) => found.as_slice() == walk,
-        None => false,
+// How many of the rows hold over a network.
+fn count_right(alloc: Global, network: &Network) -> Result<usize, NoMemory>
+    requires streets { streets network.now ≡ pairs_streets }
+    requires network { IsNetwork network.now }
+{
+    let hierarchy = pairs_over(alloc, network)?;
+    let mut count = 0usize;
+    for row in ROWS {
+        if builds_over(alloc, network, &hierarchy, row)? {
+            count = count.saturating_add(1);
+        }
     }
+    Ok(count)
 }
 
-// What is built from vertex 1 with these rides.
-fn journey(
-    alloc: Global,
-    network: &Network,
-    to: u32,
-    depart: u32,
-    rides: &[Ride],
-) -> Result<Option<Journey>, NoMemory>
-    requires streets { streets network.now ≡ pairs_streets }
-    requires network { IsNetwork network.now }
-    requires from_one { 1 ≤ to }
-    requires to_four { to ≤ 4 }
-{
-    built::<Brand>(alloc, Blank::new(1), network, to, depart, rides)
-}
-
-fn expect_two_rides(rt: &impl Abort, journey: &Journey) -> Result<(), Fail> {
-    let walks = journey.walks.as_slice();
-    assert_eq!(rt; walks.len(), 3);
-    assert!(rt; is_walk(walks, 0, &[NodeNo(1)]));
-    assert!(rt; is_walk(walks, 1, &[NodeNo(2), NodeNo(3)]));
-    assert!(rt; is_walk(walks, 2, &[NodeNo(4)]));
-    Ok(())
-}
-
-fn expect_journeys(rt: &impl Abort, alloc: Global, network: &Network) -> Result<(), Fail>
-    requires streets { streets network.now ≡ pairs_streets }
-    requires network { IsNetwork network.now }
-{
-    let both = [ride(0), ride(1)];
-    let Some(made) = journey(alloc, network, 4, 28500, &both)? else {
-        panic!(rt; "nothing is built");
-    };
-    expect_two_rides(rt, &made)?;
-    assert!(rt; journey(alloc, network, 4, 28800, &both)?.is_some());
-    assert!(rt; journey(alloc, network, 4, 28801, &both)?.is_none());
-    assert!(rt; journey(alloc, network, 4, 28500, &[ride(2)])?.is_none());
-    assert!(rt; journey(alloc, network, 1, 28500, &[ride(0)])?.is_none());
-    Ok(())
+// How many of the rows hold, or None where the network breaks a rule.
+fn count_of_pairs(alloc: Global) -> Result<Option<usize>, NoMemory> {
+    let network = network_of(alloc)?;
+    if !is_network(&network) {
+        return Ok(None);
+    }
+    Ok(Some(count_right(alloc, &network)?))
 }
 
 #[test]
 fn builds_two_rides(rt: HostRuntime) -> Result<(), Fail> {
-    let network = network_of(rt.alloc())?;
-    assert!(rt; is_network(&network));
-    expect_journeys(&rt, rt.alloc(), &network)
+    assert_eq!(rt; count_of_pairs(rt.alloc())?, Some(ROWS.len()));
+    Ok(())
 }

@@ -9,8 +9,12 @@ mod buckets;
 #[cfg(test)]
 mod cores;
 #[cfg(test)]
+mod graphs;
+#[cfg(test)]
 mod hierarchies;
 #[cfg(test)]
 mod journeys;
 #[cfg(test)]
 mod orders;
+#[cfg(test)]
+mod samples;

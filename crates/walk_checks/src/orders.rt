@@ -1,137 +1,132 @@
-ghost use Rattle.std.specs.Prelude.{◌≡◌, ◌<◌, All, IfOk, OnOk};
-ghost use Rattle.move_model.specs.Streets.{IsVertex};
+// Hierarchies of small texts, with distances and walks that were worked by hand.
+ghost use Rattle.std.specs.Prelude.{◌≡◌, ◌<◌, length};
 
-use move_model::{NodeNo, Walk};
-use std::alloc::{AllocError, Global};
+use crate::graphs::core_of;
+use move_model::{NoMemory, NodeNo};
+use std::alloc::Global;
 use std::marker::Brand;
 use std::sync::ledger::{Blank, Ledger};
 use std::test::Fail;
 use steps::Steps;
-use street_graph::{Graph, read_gr};
-use walk_core::contract;
 use walk_order::{Hierarchy, Work, distance, order, path};
 
-// Puts the number last, if it is that of a vertex.
-fn push_vertex(graph: &Graph, list: &mut Vec<NodeNo>, number: u32) -> Result<(), AllocError>
-    ensures { OnOk result (All (λ v. IsVertex graph.now v) list.old.items
-        → All (λ v. IsVertex graph.now v) list.new.items) }
-{
-    if number < 1 || graph.nodes() < number {
-        return Ok(());
-    }
-    list.push(NodeNo(number))?;
-    Ok(())
+// Two vertices, the distance between them, and the vertices of a shortest walk; no vertices stand for no walk.
+type WalkRow = (u32, u32, Option<u64>, &'static [NodeNo]);
+
+#[derive(Clone, Copy)]
+struct Case {
+    text: &'static [u8],
+    keep: &'static [u32],
+    nodes: u32,
+    // The hierarchy has more arcs.
+    streets: usize,
+    walks: &'static [WalkRow],
 }
 
-// Those of the numbers that are vertices of the graph.
-fn vertices(alloc: Global, graph: &Graph, numbers: &[u32]) -> Result<Vec<NodeNo>, AllocError>
-    ensures { IfOk result (λ list. All (λ v. IsVertex graph.now v) list.items) }
-{
-    let mut list = Vec::new(alloc);
-    for number in numbers {
-        push_vertex(graph, &mut list, *number)?;
-    }
-    Ok(list)
+const CASES: [Case; 2] = [
+    // two islands
+    Case {
+        text: b"p sp 4 4\na 2 3 240\na 3 2 240\na 1 4 7200\na 4 1 7200\n",
+        keep: &[1, 2, 3, 4],
+        nodes: 4,
+        streets: 3,
+        walks: &[
+            (2, 3, Some(240), &[NodeNo(2), NodeNo(3)]),
+            (1, 2, None, &[]),
+            (1, 4, Some(7200), &[NodeNo(1), NodeNo(4)]),
+            (3, 3, Some(0), &[NodeNo(3)]),
+        ],
+    },
+    // a circle, in which arcs are added
+    Case {
+        text: b"p sp 6 8\na 1 2 1\na 2 3 2\na 3 4 3\na 4 5 4\na 5 6 5\na 6 1 6\na 1 6 90\na 2 2 0\n",
+        keep: &[1, 6],
+        nodes: 6,
+        streets: 6,
+        walks: &[
+            (
+                1,
+                6,
+                Some(15),
+                &[
+                    NodeNo(1),
+                    NodeNo(2),
+                    NodeNo(3),
+                    NodeNo(4),
+                    NodeNo(5),
+                    NodeNo(6),
+                ],
+            ),
+            (6, 3, Some(9), &[NodeNo(6), NodeNo(1), NodeNo(2), NodeNo(3)]),
+        ],
+    },
+];
+
+fn hierarchy_of(alloc: Global, case: &Case) -> Option<Hierarchy> {
+    let core = core_of(alloc, case.text, case.keep)?;
+    order(alloc, core).ok()
 }
 
-// The hierarchy of a text of `.gr`, with these vertices in the core.
-fn hierarchy_of(alloc: Global, text: &[u8], keep: &[u32]) -> Option<Hierarchy> {
-    if text.len() > 1000 {
-        return None;
-    }
-    let Ok(graph) = read_gr(alloc, text) else {
-        return None;
-    };
-    let Ok(keep) = vertices(alloc, &graph, keep) else {
-        return None;
-    };
-    let Ok(core) = contract(alloc, &graph, keep.as_slice()) else {
-        return None;
-    };
-    match order(alloc, core) {
-        Ok(hierarchy) => Some(hierarchy),
-        Err(_) => None,
-    }
-}
-
-// The distance, and the vertices of a shortest walk.
-type Found = (Option<u64>, Option<Walk>);
-
-fn found<L: Ledger>(
+fn walks<L: Ledger>(
     alloc: Global,
     hierarchy: &Hierarchy,
-    a: u32,
-    b: u32,
-    searches: Blank,
-) -> Result<Found, AllocError>
-    requires name { searches.name ≡ L.name }
-    requires parts { searches.parts ≡ L.parts }
-    requires some { 0 < searches.parts }
+    row: WalkRow,
+    work: &mut Work,
+    blank: Blank,
+) -> Result<bool, NoMemory>
+    requires name { blank.name ≡ L.name }
+    requires parts { blank.parts ≡ L.parts }
+    requires some { 0 < blank.parts }
+    requires fits { work.old.nodes ≡ length hierarchy.now.ranks }
+    ensures { work.new.nodes ≡ work.old.nodes }
 {
+    let (from, to, seconds, walk) = row;
     let nodes = hierarchy.nodes();
-    if a < 1 || nodes < a || b < 1 || nodes < b {
-        return Ok((None, None));
+    if from < 1 || nodes < from || to < 1 || nodes < to {
+        return Ok(false);
     }
-    let mut searches = Steps::<L>::new(searches);
-    let mut work = Work::new(alloc, hierarchy)?;
-    let seconds = distance(hierarchy, NodeNo(a), NodeNo(b), &mut work, &mut searches);
-    let walk = path(
-        alloc,
-        hierarchy,
-        NodeNo(a),
-        NodeNo(b),
-        &mut work,
-        &mut searches,
-    )?;
-    Ok((seconds, walk))
-}
-
-// Whether the distance and the vertices of the walk are these; no vertices stand for no walk.
-fn gives(
-    alloc: Global,
-    hierarchy: &Hierarchy,
-    a: u32,
-    b: u32,
-    seconds: Option<u64>,
-    walk: &[NodeNo],
-) -> Result<bool, AllocError> {
-    let (least, way) = found::<Brand>(alloc, hierarchy, a, b, Blank::new(1))?;
-    let same = match way {
+    let (a, b) = (NodeNo(from), NodeNo(to));
+    let mut searches = Steps::<L>::new(blank);
+    let least = distance(hierarchy, a, b, work, &mut searches);
+    let same = match path(alloc, hierarchy, a, b, work, &mut searches)? {
         Some(nodes) => nodes.as_slice() == walk,
         None => walk.is_empty(),
     };
     Ok(least == seconds && same)
 }
 
-#[test]
-fn keeps_the_distances_of_two_islands(rt: HostRuntime) -> Result<(), Fail> {
-    let text = b"p sp 4 4\na 2 3 240\na 3 2 240\na 1 4 7200\na 4 1 7200\n";
-    let h = hierarchy_of(rt.alloc(), text, &[1, 2, 3, 4]).ok_or("no hierarchy")?;
-    assert_eq!(rt; h.nodes(), 4);
-    assert!(rt; gives(rt.alloc(), &h, 2, 3, Some(240), &[NodeNo(2), NodeNo(3)])?);
-    assert!(rt; gives(rt.alloc(), &h, 1, 2, None, &[])?);
-    assert!(rt; gives(rt.alloc(), &h, 1, 4, Some(7200), &[NodeNo(1), NodeNo(4)])?);
-    assert!(rt; gives(rt.alloc(), &h, 3, 3, Some(0), &[NodeNo(3)])?);
-    Ok(())
+// How many of the walks the hierarchy gives.
+fn count_given(alloc: Global, hierarchy: &Hierarchy, rows: &[WalkRow]) -> Result<usize, NoMemory> {
+    let mut work = Work::new(alloc, hierarchy)?;
+    let mut count = 0usize;
+    for row in rows {
+        if walks::<Brand>(alloc, hierarchy, *row, &mut work, Blank::new(1))? {
+            count = count.saturating_add(1);
+        }
+    }
+    Ok(count)
+}
+
+// How many of the walks of a case its hierarchy gives, or None where it has other vertices or too few arcs.
+fn count_walks(alloc: Global, case: &Case) -> Result<Option<usize>, NoMemory> {
+    let Some(hierarchy) = hierarchy_of(alloc, case) else {
+        return Ok(None);
+    };
+    let arcs = hierarchy
+        .up_arcs()
+        .len()
+        .saturating_add(hierarchy.down_arcs().len());
+    if hierarchy.nodes() != case.nodes || arcs <= case.streets {
+        return Ok(None);
+    }
+    Ok(Some(count_given(alloc, &hierarchy, case.walks)?))
 }
 
 #[test]
-fn unfolds_added_arcs(rt: HostRuntime) -> Result<(), Fail> {
-    let text =
-        b"p sp 6 8\na 1 2 1\na 2 3 2\na 3 4 3\na 4 5 4\na 5 6 5\na 6 1 6\na 1 6 90\na 2 2 0\n";
-    let h = hierarchy_of(rt.alloc(), text, &[1, 6]).ok_or("no hierarchy")?;
-    let whole = [1, 2, 3, 4, 5, 6].map(NodeNo);
-    assert!(rt; h.up_arcs().len() + h.down_arcs().len() > 6);
-    assert!(rt; gives(rt.alloc(), &h, 1, 6, Some(15), &whole)?);
-    assert!(rt;
-        gives(
-            rt.alloc(),
-            &h,
-            6,
-            3,
-            Some(9),
-            &[NodeNo(6), NodeNo(1), NodeNo(2), NodeNo(3)]
-        )?
-    );
+fn keeps_distances_and_unfolds_added_arcs(rt: HostRuntime) -> Result<(), Fail> {
+    for (i, case) in CASES.iter().enumerate() {
+        let count = count_walks(rt.alloc(), case)?;
+        assert_eq!(rt; count, Some(case.walks.len()), "case {i}");
+    }
     Ok(())
 }

@@ -1,4 +1,0 @@
-use Rattle.street_checks.proofs.tests.difference_of.Given as goal
-
-abbrev pub ghosts-found_difference : goal.ghosts-found_difference
-ghosts-found_difference a = record { name = a.blank.name; parts = a.blank.parts }

@@ -1,4 +1,0 @@
-use Rattle.walk_checks.proofs.journeys.journey.Given as goal
-
-abbrev pub ghosts-built : goal.ghosts-built
-ghosts-built a = record { name = a.blank.name; parts = a.blank.parts }
